@@ -1,0 +1,6 @@
+pub mod Widths
+pub mod Sums
+pub mod Classes
+pub mod Products
+pub mod Pivots
+pub mod Solutions

@@ -1,0 +1,5 @@
+pub mod Counting
+pub mod Meanings
+pub mod Widths
+pub mod Places
+pub mod Pairs

@@ -1,0 +1,6 @@
+pub mod Cutting
+pub mod Reading
+pub mod Roots
+pub mod Holding
+pub mod Jobs
+pub mod Laws
