@@ -1,6 +1,15 @@
 pub mod Widths
-pub mod Sums
+pub mod Residues
 pub mod Classes
+pub mod Constants
+pub mod Places
+pub mod Chunks
 pub mod Products
-pub mod Pivots
+pub mod Splits
 pub mod Solutions
+pub mod Signs
+pub mod Trials
+pub mod Primes
+pub mod Dots
+pub mod Stars
+pub mod Wraps

@@ -3,3 +3,5 @@ pub mod Meanings
 pub mod Widths
 pub mod Places
 pub mod Pairs
+pub mod Primes
+pub mod Dots

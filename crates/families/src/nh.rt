@@ -9,9 +9,11 @@ use crate::width::check_width;
 pub struct Nh;
 
 impl Pairing for Nh as NhPairing {
-    ghost times = { product };
+    ghost gives = { product };
 
-    fn multiply(x: u32, y: u32) -> u64 {
+    fn term(k1: u32, m1: u32, k2: u32, m2: u32) -> u64 {
+        let x = k1.wrapping_add(m1);
+        let y = k2.wrapping_add(m2);
         u64::from(x) * u64::from(y)
     }
 }

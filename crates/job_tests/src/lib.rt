@@ -1,6 +1,9 @@
 // Examples of jobs, run.
 #[cfg(test)]
 mod tests {
+    use families::Family;
+    use families::MmhStar;
+    use families::MmhStarFamily;
     use families::Nh;
     use families::NhFamily;
     use jobs::CardError;
@@ -15,18 +18,24 @@ mod tests {
     use std::test::*;
 
     // The root tag of a document under a card of ones.
-    fn tag_under_ones(label: u32, document: &[u8]) -> Result<u64, Fail> {
-        let mut job = OpenJob::<Nh>::open(&[1; 164], label)?;
+    fn tag_under_ones<F: Family>(label: u32, document: &[u8]) -> Result<u64, Fail> {
+        let mut job = OpenJob::<F>::open(&[1; 164], label)?;
         job.feed(document)?;
         Ok(job.close().root_tag())
     }
 
+    // The tags of four jobs: no bytes with label 0 and 7, then with label 0 the byte 2 and the byte 0.
+    fn check_under_ones<F: Family>(tags: [u64; 4]) -> Result<(), Fail> {
+        check_eq(tag_under_ones::<F>(0, &[])?, tags[0])?;
+        check_eq(tag_under_ones::<F>(7, &[])?, tags[1])?;
+        check_eq(tag_under_ones::<F>(0, &[2])?, tags[2])?;
+        check_eq(tag_under_ones::<F>(0, &[0])?, tags[3])
+    }
+
     #[test]
     fn card_of_ones() -> Result<(), Fail> {
-        check_eq(tag_under_ones(0, &[])?, 6)?;
-        check_eq(tag_under_ones(7, &[])?, 13)?;
-        check_eq(tag_under_ones(0, &[2])?, 10)?;
-        check_eq(tag_under_ones(0, &[0])?, 8)
+        check_under_ones::<Nh>([6, 13, 10, 8])?;
+        check_under_ones::<MmhStar>([0, 7, 3, 1])
     }
 
     #[test]

@@ -5,3 +5,4 @@ pub mod Towers
 pub mod Streams
 pub mod Feeding
 pub mod Apart
+pub mod Worked

@@ -4,3 +4,4 @@ pub mod Roots
 pub mod Holding
 pub mod Jobs
 pub mod Laws
+pub mod Examples

@@ -2,6 +2,7 @@
 mod block;
 mod card;
 mod closed_job;
+mod examples;
 mod laws;
 mod level;
 mod open_job;
@@ -13,6 +14,7 @@ pub use card::CardError;
 pub use card::CardErrorDebug;
 pub use card::CardErrorPartialEq;
 pub use card::read_card;
+pub use examples::worked_examples;
 pub use laws::layout_laws;
 pub use open_job::TooLong;
 pub use open_job::TooLongDebug;

@@ -42,7 +42,8 @@ pub impl fmt::Display for Fault as FaultDisplay {
         f.write_str(
             match self {
                 Fault::Usage => "usage: loftmark FAMILY LABEL, with the document on standard input",
-                Fault::UnknownFamily => "no such family; the families are NH",
+                Fault::UnknownFamily =>
+                    "no such family; the families are NH, NHS, MMH* (or MMHSTAR) and MMH",
                 Fault::BadLabel => "the label is not a whole number from 0 to 4294967295",
                 Fault::NoCard => "cannot read card.bin in this folder",
                 Fault::CardSize => "card.bin is not 656 bytes long",

@@ -4,8 +4,14 @@ mod input;
 mod order;
 
 use families::Family;
+use families::Mmh;
+use families::MmhFamily;
+use families::MmhStar;
+use families::MmhStarFamily;
 use families::Nh;
 use families::NhFamily;
+use families::Nhs;
+use families::NhsFamily;
 use fault::Fault;
 use fault::FaultDisplay;
 use fault::FaultFromError;
@@ -28,6 +34,9 @@ fn run(rt: &LibcRuntime) -> Result<(), Fault> {
     let (name, label) = read_order(rt)?;
     match name {
         FamilyName::Nh => mark::<Nh>(rt, name, label),
+        FamilyName::Nhs => mark::<Nhs>(rt, name, label),
+        FamilyName::MmhStar => mark::<MmhStar>(rt, name, label),
+        FamilyName::Mmh => mark::<Mmh>(rt, name, label),
     }
 }
 

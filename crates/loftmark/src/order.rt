@@ -1,4 +1,6 @@
 // The command line.
+ghost use Rattle.std.specs.Results.{Cases};
+ghost use Rattle.loftmark.specs.Names.{Named, Unnamed};
 use crate::fault::Fault;
 use crate::fault::FaultFromError;
 use std::env;
@@ -7,6 +9,9 @@ use std::fmt;
 #[derive(Clone, Copy, Drop)]
 pub enum FamilyName {
     Nh,
+    Nhs,
+    MmhStar,
+    Mmh,
 }
 
 pub impl fmt::Display for FamilyName as FamilyNameDisplay {
@@ -14,14 +19,23 @@ pub impl fmt::Display for FamilyName as FamilyNameDisplay {
         f.write_str(
             match self {
                 FamilyName::Nh => "NH",
+                FamilyName::Nhs => "NHS",
+                FamilyName::MmhStar => "MMH*",
+                FamilyName::Mmh => "MMH",
             },
         )
     }
 }
 
-fn family_named(text: &str) -> Result<FamilyName, Fault> {
+// The family of this name; a shell takes the star of MMH* for a pattern, so that family has a second name.
+fn family_named(text: &str) -> Result<FamilyName, Fault>
+    ensures { λ r. ⌜ Cases r (λ family. Named family (now (text .entry))) (λ _. Unnamed (now (text .entry))) ⌝ }
+{
     match text {
         "NH" => Ok(FamilyName::Nh),
+        "NHS" => Ok(FamilyName::Nhs),
+        "MMH*" | "MMHSTAR" => Ok(FamilyName::MmhStar),
+        "MMH" => Ok(FamilyName::Mmh),
         _ => Err(Fault::UnknownFamily),
     }
 }

@@ -3,8 +3,14 @@ mod pieces;
 mod vectors;
 
 use families::Family;
+use families::Mmh;
+use families::MmhFamily;
+use families::MmhStar;
+use families::MmhStarFamily;
 use families::Nh;
 use families::NhFamily;
+use families::Nhs;
+use families::NhsFamily;
 use pieces::Feeding;
 use pieces::root_tag;
 use std::error::AnyError;
@@ -55,7 +61,13 @@ fn count<F: Family>(
     Ok(())
 }
 
-fn compare<F: Family>(rt: &LibcRuntime, text: &str, column: usize) -> Result<(), AnyError> {
+fn compare<F: Family>(
+    rt: &LibcRuntime,
+    text: &str,
+    column: usize,
+    name: &str,
+) -> Result<(), AnyError> {
+    println!(rt, "{name}")?;
     count::<F>(rt, text, column, Feeding::Pieces(&WHOLE), "  fed whole")?;
     count::<F>(rt, text, column, Feeding::Pieces(&BYTES), "  byte by byte")?;
     count::<F>(
@@ -75,9 +87,11 @@ fn compare<F: Family>(rt: &LibcRuntime, text: &str, column: usize) -> Result<(),
 }
 
 fn run(rt: &LibcRuntime) -> Result<(), AnyError> {
-    let text = fs::read_to_string(rt, "marks.tsv")?;
-    println!(rt, "NH")?;
-    compare::<Nh>(rt, text.as_str(), 0)
+    let marks = fs::read_to_string(rt, "marks.tsv")?;
+    compare::<Nh>(rt, marks.as_str(), 0, "NH")?;
+    compare::<Nhs>(rt, marks.as_str(), 1, "NHS")?;
+    compare::<MmhStar>(rt, marks.as_str(), 2, "MMH*")?;
+    compare::<Mmh>(rt, marks.as_str(), 3, "MMH")
 }
 
 fn main(rt: LibcRuntime) -> Result<(), AnyError> {
