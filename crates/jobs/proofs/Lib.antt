@@ -6,3 +6,5 @@ pub mod Streams
 pub mod Feeding
 pub mod Apart
 pub mod Worked
+pub mod Shapes
+pub mod Colliding

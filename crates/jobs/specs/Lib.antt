@@ -5,3 +5,4 @@ pub mod Holding
 pub mod Jobs
 pub mod Laws
 pub mod Examples
+pub mod Collisions

@@ -1,0 +1,10 @@
+pub mod Counts
+pub mod Laws
+pub mod Marks
+pub mod Moves
+pub mod Openings
+pub mod Passes
+pub mod Questions
+pub mod Steps
+pub mod Strucks
+pub mod Tags

@@ -1,0 +1,9 @@
+pub mod Fates
+pub mod Opening
+pub mod Office
+pub mod Table
+pub mod Counting
+pub mod Listing
+pub mod Runs
+pub mod Law
+pub mod Views
