@@ -9,7 +9,7 @@ ghost use Rattle.pads.specs.Sources.{asked};
 #[derive(Clone, Copy, PartialEq, Eq, Debug)]
 pub struct NoSuchPad;
 
-// A list of pads. A question changes nothing, and the same question has the same answer.
+// A list of pads. Asking leaves the source as it was, so asking again gives the same.
 pub trait PadSource {
     ghost pads: { Self → List ℕ };
 

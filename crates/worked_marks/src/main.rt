@@ -1,7 +1,11 @@
-// Computes the root tags of marks.tsv, which another implementation wrote, and says how many agree.
+// Computes the root tags of marks.tsv and the answers of lines.tsv, which another implementation wrote, and says how
+// many agree.
+mod examples;
+mod lines;
 mod pieces;
 mod vectors;
 
+use examples::compare_examples;
 use families::Family;
 use families::Mmh;
 use families::MmhFamily;
@@ -11,6 +15,7 @@ use families::Nh;
 use families::NhFamily;
 use families::Nhs;
 use families::NhsFamily;
+use lines::compare_lines;
 use pieces::Feeding;
 use pieces::root_tag;
 use std::error::AnyError;
@@ -91,7 +96,9 @@ fn run(rt: &LibcRuntime) -> Result<(), AnyError> {
     compare::<Nh>(rt, marks.as_str(), 0, "NH")?;
     compare::<Nhs>(rt, marks.as_str(), 1, "NHS")?;
     compare::<MmhStar>(rt, marks.as_str(), 2, "MMH*")?;
-    compare::<Mmh>(rt, marks.as_str(), 3, "MMH")
+    compare::<Mmh>(rt, marks.as_str(), 3, "MMH")?;
+    compare_lines(rt)?;
+    compare_examples(rt)
 }
 
 fn main(rt: LibcRuntime) -> Result<(), AnyError> {

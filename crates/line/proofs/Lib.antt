@@ -1,0 +1,11 @@
+pub mod Joins
+pub mod Digits
+pub mod Lines
+pub mod Puts
+pub mod Turns
+pub mod Serving
+pub mod Admissions
+pub mod Codes
+pub mod Wholes
+pub mod Granted
+pub mod Lawful

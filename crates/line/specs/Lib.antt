@@ -1,0 +1,13 @@
+pub mod Bytes
+pub mod Numbers
+pub mod Encodings
+pub mod Commands
+pub mod Choices
+pub mod Faults
+pub mod Sessions
+pub mod Buffers
+pub mod Lines
+pub mod Standing
+pub mod Beginnings
+pub mod Laws
+pub mod Grants

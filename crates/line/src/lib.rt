@@ -1,0 +1,30 @@
+// The cutter line: commands in bytes, the session that obeys them, and the answers in bytes.
+mod answer;
+mod begin;
+mod choice;
+mod command;
+mod fault;
+mod laws;
+mod number;
+mod output;
+mod reader;
+mod refusal;
+mod run;
+mod serve;
+mod session;
+
+pub use answer::Answer;
+pub use answer::AnswerBytes;
+pub use command::Command;
+pub use laws::line_laws;
+pub use reader::read_command;
+pub use refusal::BookFault;
+pub use refusal::FamilyFault;
+pub use refusal::LineFault;
+pub use refusal::PadFault;
+pub use refusal::Refusal;
+pub use refusal::RefusalDebug;
+pub use refusal::RefusalEq;
+pub use refusal::RefusalPartialEq;
+pub use refusal::SessionFault;
+pub use run::run_line;
