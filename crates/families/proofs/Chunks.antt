@@ -1,5 +1,5 @@
 -- The sum over pairs, a chunk of two at a time.
-use Rattle.std.proofs.Common.{◌≡◌, ℕ, ◌+◌, ◌%◌, ◌^◌, ◌<◌, List, [], ◌∷◌, ◌++◌, length, get_or, Some, None, Option, sym, ap, ◌∙◌, add_assoc, arith, Bor, MatchOption}
+use Rattle.std.proofs.Common.{◌≡◌, ℕ, ◌+◌, ◌%◌, ◌^◌, ◌<◌, List, [], ◌∷◌, ◌++◌, length, get_or, Some, None, ◌⊎◌, inl, inr, sym, ap, ◌∙◌, add_assoc, arith, Bor}
 use native.Mathlib.Nat.{mod-add-mod, add-mod-mod}
 use Rattle.std.proofs.lemmas.List.{nil_from_length, length-append}
 use Rattle.std.specs.Iterator.Adapters.{zip_first, zip_second}
@@ -68,9 +68,9 @@ wrapped_more f sum term all i k x j t et e =
     ap (λ n. (n + left) % 2 ^ 64) whole ∙ mod-add-mod (sum + chunk f k x) (2 ^ 64) left ∙ ap (λ n. n % 2 ^ 64) more ∙ e
 
 -- where one of the two has no more, nothing is left
-pub ended : (f : ℕ → ℕ → ℕ → ℕ → ℕ) (i j : Chunks) (o : Option (Bor (List ℕ))) → InPairs i → chunks_exact_steps (zip_first i) o (zip_first j) → MatchOption o (zip_second j ≡ zip_second i) (λ _. chunks_exact_steps (zip_second i) None (zip_second j)) → pair_sum f (keys_left i) (words_left i) ≡ 0
-ended f i j o p q r = ap (λ zs. pair_sum f zs (words_left i)) (nil_from_length (keys_left i) (none o q r))
+pub ended : (f : ℕ → ℕ → ℕ → ℕ → ℕ) (i : Chunks) → InPairs i → ((u : ChunksExact ℕ) × chunks_exact_steps (zip_first i) None u) ⊎ ((u : ChunksExact ℕ) × chunks_exact_steps (zip_second i) None u) → pair_sum f (keys_left i) (words_left i) ≡ 0
+ended f i p steps = ap (λ zs. pair_sum f zs (words_left i)) (nil_from_length (keys_left i) (none steps))
   where
-    none : (o : Option (Bor (List ℕ))) → chunks_exact_steps (zip_first i) o (zip_first j) → MatchOption o (zip_second j ≡ zip_second i) (λ _. chunks_exact_steps (zip_second i) None (zip_second j)) → length (keys_left i) ≡ 0
-    none None q r = let short : length (keys_left i) < chunks_exact_size (zip_first i) = q.1.0 in omega arith
-    none (Some k) q r = let short : length (words_left i) < chunks_exact_size (zip_second i) = r.1.0 in omega arith
+    none : ((u : ChunksExact ℕ) × chunks_exact_steps (zip_first i) None u) ⊎ ((u : ChunksExact ℕ) × chunks_exact_steps (zip_second i) None u) → length (keys_left i) ≡ 0
+    none (inl e) = let short : length (keys_left i) < chunks_exact_size (zip_first i) = e.1.1.0 in omega arith
+    none (inr e) = let short : length (words_left i) < chunks_exact_size (zip_second i) = e.1.1.0 in omega arith

@@ -1,6 +1,5 @@
 -- The lengths that a family takes, as facts.
-use Rattle.std.proofs.Common.{◌≡◌, ℕ, ◌%◌, ◌≤◌, true, cond, ◌&&◌, eqb, leb, List, length, Ok, sym, refl, ap, ◌∙◌, arith}
-use Rattle.std.proofs.lemmas.Bool.{eq-eqb}
+use Rattle.std.proofs.Common.{◌≡◌, ℕ, ◌%◌, ◌≤◌, true, List, length, Ok, ◌∙◌, arith}
 use Rattle.families.specs.Meanings.{Meaning, Sized}
 use Rattle.families.specs.Widths.{takes, tagged}
 

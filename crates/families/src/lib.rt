@@ -1,5 +1,7 @@
 // Families of universal hashes. A family turns key words and message words into a tag; its law says how few
 // values of one key word let two messages' tags differ by a given number.
+#![tactic(auto)]
+
 mod family;
 mod mmh;
 mod mmh_star;

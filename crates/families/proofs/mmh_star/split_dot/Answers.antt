@@ -9,7 +9,7 @@ pub loop-k-preserved : goal.loop-k-preserved
 loop-k-preserved c =
     let steps = c.in-Some.ensures.steps in
     let inv = c.loop-k.invariant in
-    let t = turn c.loop-k.k-iterator c.next.new.self c.in-Some.k c.in-Some.w inv.2 steps.0 steps.1 in
+    let t = turn c.loop-k.k-iterator c.next.new.self c.in-Some.k c.in-Some.w inv.in_pairs steps.0 steps.1 in
     let more = t.more products in
     let one = c.from.result * c.from-in-loop-k.result in
     let two = c.from-in-loop-k-2.result * c.from-in-loop-k-3.result in
@@ -19,12 +19,12 @@ loop-k-preserved c =
     let two_low : two < 2 ^ 32 * 2 ^ 32 = mul-lt _ _ (2 ^ 32) (2 ^ 32) (search rules) (search rules) in
     let one_bits = and_mask one 16 in
     let two_bits = and_mask two 16 in
-    ((tt, tt), (search rules, search rules), t.in_pairs, omega arith, omega arith, omega arith)
+    record { in_pairs = t.in_pairs; low = omega arith; high = omega arith; sum = omega arith }
 
 pub returns : goal.returns
 returns c =
     let inv = c.loop-k.invariant in
     let steps = c.in-None.ensures.steps in
-    let none = ended products c.loop-k.k-iterator c.next.new.self steps.0 inv.2 steps.1 steps.2 in
+    let none = ended products c.loop-k.k-iterator inv.in_pairs steps in
     let all = dot_pairs c.args.keys.now c.args.words.now (search rules) (search rules) in
     record { value = omega arith; small = omega arith }

@@ -8,6 +8,9 @@ use Rattle.families.proofs.mmh_star.split_dot.Given as goal
 abbrev pub invariant-loop-k : goal.invariant-loop-k
 invariant-loop-k l =
     let i = l.k-iterator in
-    (goal.iterator-loop-k).can_next i × (goal.iterator-loop-k).is_finite i × InPairs i
-    × (l.low + length (words_left i) * 2 ^ 16 ≤ 2 ^ 21) × (l.high + length (words_left i) * 2 ^ 48 ≤ 2 ^ 53)
-    × (l.low + 2 ^ 16 * l.high + pair_sum products (keys_left i) (words_left i) ≡ pair_sum products l.keys l.words)
+    record {
+      in_pairs : InPairs i;
+      low : l.low + length (words_left i) * 2 ^ 16 ≤ 2 ^ 21;
+      high : l.high + length (words_left i) * 2 ^ 48 ≤ 2 ^ 53;
+      sum : l.low + 2 ^ 16 * l.high + pair_sum products (keys_left i) (words_left i) ≡ pair_sum products l.keys l.words;
+    }

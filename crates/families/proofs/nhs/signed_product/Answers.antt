@@ -8,5 +8,5 @@ returns c =
     let x : c.from.result ≡ c.args.x = search rules in
     let y : c.from-2.result ≡ c.args.y = search rules in
     let fits : SFits w64 (c.from.result *ℤ c.from-2.result) = search rules in
-    let bits : c.cast-unsigned.result ≡ of_z w64 (c.from.result *ℤ c.from-2.result) = search rules in
+    let bits : c.cast_unsigned.result ≡ of_z w64 (c.from.result *ℤ c.from-2.result) = search rules in
     bits ∙ bits-residue _ fits ∙ ap₂ (λ a b. residue (a *ℤ b) % 2 ^ 64) x y

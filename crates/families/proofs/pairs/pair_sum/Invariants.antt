@@ -7,5 +7,8 @@ abbrev pub invariant-loop-k : goal.invariant-loop-k
 invariant-loop-k g l =
     let f = g.P.Pairing.gives in
     let i = l.k-iterator in
-    (goal.iterator-loop-k g).can_next i × (goal.iterator-loop-k g).is_finite i × InPairs i × (l.sum < 2 ^ 64)
-    × ((l.sum + pair_sum f (keys_left i) (words_left i)) % 2 ^ 64 ≡ pair_sum f l.keys l.words % 2 ^ 64)
+    record {
+      in_pairs : InPairs i;
+      fits : l.sum < 2 ^ 64;
+      sum : (l.sum + pair_sum f (keys_left i) (words_left i)) % 2 ^ 64 ≡ pair_sum f l.keys l.words % 2 ^ 64;
+    }
