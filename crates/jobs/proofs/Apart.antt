@@ -1,5 +1,5 @@
 -- Different jobs have different root lists or different words at level 1, and level 5 gives one tag.
-use Rattle.std.proofs.Common.{◌≡◌, ℕ, zero, suc, ◌+◌, ◌-◌, ◌*◌, ◌/◌, ◌^◌, ◌<◌, ◌≤◌, min, ◌≢◌, ◌⊎◌, List, [], ◌∷◌, ◌++◌, map, length, get_or, take, drop, sym, refl, ap, ◌∙◌, subst, inl, inr, mod-lt, pow-suc, mul-suc, arith}
+use Rattle.std.proofs.Common.{◌≡◌, ℕ, zero, suc, ◌-◌, ◌*◌, ◌/◌, ◌^◌, ◌<◌, ◌≤◌, min, ◌≢◌, ◌⊎◌, List, ◌++◌, map, length, get_or, take, drop, sym, refl, ap, ◌∙◌, inl, inr, mod-lt, pow-suc, mul-suc, arith}
 use native.Mathlib.Nat.{div-add-mod}
 use Rattle.std.specs.List.{AllByRecursion as All}
 use Rattle.std.proofs.ByRecursion.{All-take, All-drop}
@@ -8,7 +8,7 @@ use Rattle.std.proofs.lemmas.Bool.{cases_eq}
 use Rattle.families.specs.Meanings.{Meaning}
 use Rattle.jobs.specs.Cutting.{cut, blocks}
 use Rattle.jobs.specs.Reading.{byte_words, tags_words}
-use Rattle.jobs.specs.Roots.{Job, Proper, block_tag, first_words, next_words, climb, level_tags, root_list}
+use Rattle.jobs.specs.Roots.{Job, block_tag, first_words, next_words, climb, level_tags, root_list}
 use Rattle.jobs.specs.Laws.{OneTop, JobsApart}
 use Rattle.jobs.proofs.Reading.{byte_words_same}
 

@@ -10,7 +10,7 @@ use Rattle.families.specs.Counting.{AtMost}
 use Rattle.families.specs.Meanings.{Meaning, Words, Sized, Yields, Few, Lawful}
 use Rattle.jobs.specs.Reading.{tags_words}
 use Rattle.jobs.specs.Roots.{Card, Job, Proper, block_tag, first_words, next_words, level_tags, top_tag, root_list, root_tag}
-use Rattle.jobs.specs.Collisions.{entering, FirstApart, Place, keys_from, Lets, Collision}
+use Rattle.jobs.specs.Collisions.{entering, Place, keys_from, Lets, Collision}
 use Rattle.jobs.specs.Collisions.Place.{root, level}
 use Rattle.jobs.proofs.Apart.{blocks_same, one_top, jobs_apart}
 use Rattle.jobs.proofs.Shapes.{level_tags_lem, same_shape, Block, tags_low, all_blocks, cases_lists, first_apart}

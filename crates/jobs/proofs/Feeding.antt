@@ -1,8 +1,9 @@
 -- What a job stands for, from one call to the next.
-use Rattle.std.proofs.Common.{◌≡◌, ℕ, ◌+◌, ◌^◌, ◌<◌, ◌≤◌, List, [], ◌∷◌, ◌++◌, length, get_or, drop, sym, refl, ap, ◌∙◌, subst, append_assoc, arith, length-append, w8, w32, Fits}
+use Rattle.std.proofs.Common.{◌≡◌, ℕ, ◌+◌, ◌^◌, ◌<◌, ◌≤◌, List, ◌++◌, length, get_or, drop, sym, ap, ◌∙◌, subst, append_assoc, arith, length-append, w8, w32, Fits}
 use native.Mathlib.Decide.{dec_lt}
 use Rattle.std.proofs.ByRecursion.{All-append, All-from_get_or}
 use Rattle.families.specs.Meanings.{Meaning, Words}
+use Rattle.families.specs.declared.family.Family.{Ghosts}
 use Rattle.jobs.specs.Reading.{Bytes}
 use Rattle.jobs.specs.Roots.{Job, root_tag, root_words, top_tag}
 use Rattle.jobs.specs.Holding.{StreamHolds}
@@ -16,8 +17,8 @@ words_typed xs typed = All-from_get_or (λ x. x < 2 ^ 32) xs 0 (λ i _. (typed i
 pub bytes_typed : (xs : List ℕ) → ((i : ℕ) → Fits w8 (get_or xs i 0)) → Bytes xs
 bytes_typed xs typed = All-from_get_or (λ x. x < 256) xs 0 (λ i _. (typed i).fits)
 
-module _ {F : Type 0} (m : Meaning) (o : OpenJob F) where
-  pub taken : (o' : OpenJob F) (piece : List ℕ) → Bytes piece → o'.card ≡ o.card → o'.label ≡ o.label → o'.length ≡ o.length + length piece
+module _ {F : Type 0} {G : Ghosts F} (m : Meaning) (o : OpenJob F G) where
+  pub taken : (o' : OpenJob F G) (piece : List ℕ) → Bytes piece → o'.card ≡ o.card → o'.label ≡ o.label → o'.length ≡ o.length + length piece
       → (0 < o.stream.filled + length piece → 0 < o'.stream.filled)
       → ((doc : List ℕ) → StreamHolds m o.card o.stream doc → StreamHolds m o.card o'.stream (doc ++ piece))
       → (card : List ℕ) (job : Job) → Holds m card job o → Holds m card (fed job piece) o'

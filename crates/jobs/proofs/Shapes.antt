@@ -1,12 +1,12 @@
 -- The blocks that enter a level: how long they are, and what they are made of.
-use Rattle.std.proofs.Common.{◌≡◌, ℕ, zero, suc, ◌+◌, ◌-◌, ◌*◌, ◌/◌, ◌%◌, ◌^◌, ◌<◌, ◌≤◌, min, ◌≢◌, ◌⊎◌, List, [], ◌∷◌, ◌++◌, map, length, get_or, take, drop, sym, refl, ap, ◌∙◌, subst, inl, inr, mul-suc, arith}
+use Rattle.std.proofs.Common.{◌≡◌, ℕ, zero, suc, ◌+◌, ◌-◌, ◌*◌, ◌/◌, ◌%◌, ◌^◌, ◌<◌, ◌≤◌, min, ◌≢◌, ◌⊎◌, List, [], ◌∷◌, map, length, get_or, take, drop, sym, refl, ap, ◌∙◌, subst, inl, inr, mul-suc, arith}
 use Rattle.std.specs.List.{AllByRecursion as All}
 use Rattle.std.proofs.ByRecursion.{All-take, All-drop, All-map, All-weaker, All-from_get_or}
-use Rattle.std.proofs.lemmas.List.{length-map, length-take, length-drop, drop-drop, length-append, get_or-map, get_or_past}
+use Rattle.std.proofs.lemmas.List.{length-map, length-take, length-drop, drop-drop, get_or-map, get_or_past}
 use Rattle.std.proofs.lemmas.Bool.{cases_eq, cases_lt}
 use Rattle.families.specs.Meanings.{Meaning, Words, Lawful}
 use Rattle.jobs.specs.Cutting.{cut, blocks}
-use Rattle.jobs.specs.Reading.{Bytes, word_at, words_of, byte_words, tag_words, tags_words}
+use Rattle.jobs.specs.Reading.{Bytes, word_at, byte_words, tags_words}
 use Rattle.jobs.specs.Roots.{block_tag, first_words, next_words, climb, level_tags}
 use Rattle.jobs.specs.Collisions.{entering, FirstApart}
 use Rattle.jobs.proofs.Reading.{byte_low, length-words_of, get_or-words_of}

@@ -3,7 +3,7 @@ use Rattle.std.specs.Prelude.{◌≡◌, ℕ, List, [], ◌∷◌, replicate}
 use Rattle.families.specs.Meanings.{Meaning}
 use Rattle.families.specs.Pairs.{nh, nhs}
 use Rattle.families.specs.Dots.{mmh_star, mmh}
-use Rattle.jobs.specs.Roots.{Job, root_tag}
+use Rattle.jobs.specs.Roots.{root_tag}
 
 -- the tag of a message of two words under a key of two words
 abbrev pub of_pair : Meaning → ℕ → ℕ → ℕ → ℕ → ℕ

@@ -1,5 +1,5 @@
 -- What the state of an open job stands for.
-use Rattle.std.specs.Prelude.{◌≡◌, ℕ, ◌+◌, ◌*◌, ◌<◌, ◌≤◌, List, [], ◌∷◌, ◌++◌, map, length, take, drop}
+use Rattle.std.specs.Prelude.{◌≡◌, ℕ, ◌*◌, ◌<◌, List, [], ◌∷◌, map, length, take, drop}
 use Rattle.families.specs.Meanings.{Meaning}
 use Rattle.jobs.specs.Cutting.{Split}
 use Rattle.jobs.specs.Reading.{byte_words, tags_words}

@@ -1,5 +1,5 @@
 -- Laws of blocks and root lists, in the words of the subject.
-use Rattle.std.specs.Prelude.{◌≡◌, ℕ, ◌<◌, ◌≤◌, ◌≢◌, ◌⊎◌, List, [], ◌∷◌, ◌++◌, length}
+use Rattle.std.specs.Prelude.{◌≡◌, ℕ, ◌<◌, ◌≢◌, ◌⊎◌, List, [], ◌∷◌, ◌++◌, length}
 use Rattle.families.specs.Meanings.{Meaning}
 use Rattle.jobs.specs.Cutting.{blocks, Split}
 use Rattle.jobs.specs.Roots.{Job, Proper, first_words, level_tags, root_list}

@@ -1,5 +1,5 @@
 -- The root tag of a job under a key card.
-use Rattle.std.specs.Prelude.{◌≡◌, ℕ, zero, suc, ◌+◌, ◌^◌, ◌<◌, ◌≤◌, List, [], ◌∷◌, ◌++◌, map, length, take, drop, slice_index}
+use Rattle.std.specs.Prelude.{◌≡◌, ℕ, zero, suc, ◌^◌, ◌<◌, ◌≤◌, List, [], ◌∷◌, ◌++◌, map, length, take, drop, slice_index}
 use Rattle.families.specs.Meanings.{Meaning, Words}
 use Rattle.jobs.specs.Cutting.{blocks}
 use Rattle.jobs.specs.Reading.{Bytes, byte_words, tag_words, tags_words}

@@ -1,4 +1,6 @@
 // Jobs: a document that comes in pieces, under a key card and a label, and the root tag that it has once it is closed.
+#![tactic(auto)]
+
 mod block;
 mod card;
 mod closed_job;

@@ -1,4 +1,6 @@
 // Sources of one-time pads. A pad is a number below 2^64, and a source numbers its pads from 0.
+#![tactic(auto)]
+
 mod bytes;
 mod sheet;
 mod source;

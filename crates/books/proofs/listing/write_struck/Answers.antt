@@ -3,21 +3,21 @@ use Rattle.books.specs.Counting.{times}
 use Rattle.books.specs.Listing.{struck_count}
 use Rattle.books.proofs.Strucks.{strucks, count_then, count_else, strucks_then, strucks_else, room_then, front_written, back_kept, times-strucks}
 use Rattle.books.proofs.listing.write_struck.Goals as goal
-use Rattle.books.proofs.listing.write_struck.Goals.{then-is-struck, else-is-struck}
+use Rattle.books.proofs.listing.write_struck.Goals.{then-is_struck, else-is_struck}
 
-room : (c : goal.Then-is-struck) → c.loop-number.listed < length c.loop-number.places
+room : (c : goal.Then-is_struck) → c.loop-number.listed < length c.loop-number.places
 room c =
-    let p = room_then c.args.fates.now c.loop-number.number _ c.loop-number-test.true c.if-is-struck.ensures in
+    let p = room_then c.args.fates.now c.loop-number.number _ c.loop-number-test.true c.if-is_struck.ensures in
     omega (arith, c.loop-number.invariant.0, c.requires.room, c.loop-number.auto.places)
 
-pub offset-bounds-places-listed : goal.offset-bounds-places-listed
-offset-bounds-places-listed c = let r = room c in omega arith
+pub offset_bounds-places-listed : goal.offset_bounds-places-listed
+offset_bounds-places-listed c = let r = room c in omega arith
 
 pub bounds-places-listed : goal.bounds-places-listed
 bounds-places-listed c = room c
 
-pub overflow-add-listed : goal.overflow-add-listed
-overflow-add-listed c = let r = room c in omega arith
+pub overflow_add-listed : goal.overflow_add-listed
+overflow_add-listed c = let r = room c in omega arith
 
 pub loop-number-preserved : goal.loop-number-preserved
 loop-number-preserved c =
@@ -27,9 +27,9 @@ loop-number-preserved c =
     let n = c.loop-number.listed in
     let l = c.loop-number-test.true in
     let inv = c.loop-number.invariant in
-    elim c.if-is-struck.branch [
-      | then-is-struck w ↦
-          let e = w.if-is-struck.ensures in
+    elim c.if-is_struck.branch [
+      | then-is_struck w ↦
+          let e = w.if-is_struck.ensures in
           let p = room_then fs i _ l e in
           let q = count_then fs i _ l e in
           let space : n < length xs = omega (arith, inv.0, c.requires.room, c.loop-number.auto.places) in
@@ -38,8 +38,8 @@ loop-number-preserved c =
             front_written xs c.args.places.now n i space _ inv.1 ∙ sym (strucks_then fs i _ l e),
             back_kept xs c.args.places.now n i space inv.2,
           )
-      | else-is-struck w ↦
-          let e = w.if-is-struck.ensures in
+      | else-is_struck w ↦
+          let e = w.if-is_struck.ensures in
           let q = count_else fs i _ l e in
           rw (w.listed-is, w.places-is) (omega (arith, inv.0), inv.1 ∙ sym (strucks_else fs i _ l e), inv.2)
     ]

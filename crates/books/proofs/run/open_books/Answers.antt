@@ -12,9 +12,9 @@ pub returns : goal.returns
 returns g c =
     let ps : List ℕ = g.S.PadSource.pads c.args.office in
     let qs : List ℕ = g.U.PadSource.pads c.args.table in
-    let office = granted (length ps) _ (opened ps) c.in-ok-office.ensures in
-    let table = granted (length qs) _ (laid qs) c.in-ok-table.ensures in
-    let are : books_view g.S.PadSource.pads g.U.PadSource.pads (c.in-ok-office.office, c.in-ok-table.table) ≡ started ps qs =
+    let office = granted (length ps) _ (opened ps) c.in_ok-office.ensures in
+    let table = granted (length qs) _ (laid qs) c.in_ok-table.ensures in
+    let are : books_view g.S.PadSource.pads g.U.PadSource.pads (c.in_ok-office.office, c.in_ok-table.table) ≡ started ps qs =
     cc (office.1, table.1)
     in
     record {

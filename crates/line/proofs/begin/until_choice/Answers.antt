@@ -47,7 +47,7 @@ loop-at-preserved c =
       within,
       omega (arith, c.loop-at.invariant.1, c.respond-used-in-loop-at.ensures.end),
       λ card s.
-          left_next (c.loop-at.invariant.2 card s) part _ _ _ (before_next card line at s o is (sym c.in-default.ensures))
+          left_next (c.loop-at.invariant.2 card s) part _ _ _ (before_next card line at s o is (sym c.in_default.ensures))
           (omega (arith, c.loop-at.invariant.1, c.requires.room, c.loop-at.auto.answers)) c.respond-used-in-loop-at.ensures.end
           c.respond-used-in-loop-at.ensures.buffer,
     )

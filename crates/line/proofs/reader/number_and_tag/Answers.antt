@@ -5,6 +5,6 @@ use Rattle.line.proofs.reader.number_and_tag.Goals as goal
 
 pub returns : goal.returns
 returns c =
-    let number = c.read-u32.ensures in
-    let tag = c.read-u64.ensures ∙ ap number_of (between_to_end c.args.bytes.now 4 (length c.args.bytes.now) (omega arith)) in
+    let number = c.read_u32.ensures in
+    let tag = c.read_u64.ensures ∙ ap number_of (between_to_end c.args.bytes.now 4 (length c.args.bytes.now) (omega arith)) in
     cc

@@ -15,27 +15,27 @@ unfolding unchosen_from
 returns c =
     let line : List ℕ = c.args.line.now in
     let buffer : List ℕ = c.args.answers.now in
-    let words : List ℕ = c.in-ok-card.card in
+    let words : List ℕ = c.in_ok-card.card in
     let at_first =
-    start c.args.card.now c.args.sheet.now words c.read-sheet.new.places (replicate 256 0)
-    c.in-ok-pads.pads.pads.now (length line) (length buffer) c.in-ok-count.count _
-    c.in-ok-check-sizes.ensures c.in-ok-card.ensures c.in-ok-count.ensures.answer
-    c.in-ok-count.ensures.places c.read-sheet.auto.places refl c.in-ok-pads.ensures
-    c.in-ok-office.ensures.given
+    start c.args.card.now c.args.sheet.now words c.read_sheet.new.places (replicate 256 0)
+    c.in_ok-pads.pads.pads.now (length line) (length buffer) c.in_ok-count.count _
+    c.in_ok-check_sizes.ensures c.in_ok-card.ensures c.in_ok-count.ensures.answer
+    c.in_ok-count.ensures.places c.read_sheet.auto.places refl c.in_ok-pads.ensures
+    c.in_ok-office.ensures.given
     in
     record {
       answer =
-          ap Ok (c.answer-line.ensures.end ∙ ap (λ (b : Books). length (unchosen_from words line 0 (record { books = b; job = None }))) at_first.1)
+          ap Ok (c.answer_line.ensures.end ∙ ap (λ (b : Books). length (unchosen_from words line 0 (record { books = b; job = None }))) at_first.1)
           ∙ sym (ap (λ r. (ran_with r line buffer).0) at_first.0);
       buffer =
-          c.answer-line.ensures.buffer
+          c.answer_line.ensures.buffer
           ∙ ap (λ (b : Books). put 0 (unchosen_from words line 0 (record { books = b; job = None })) buffer) at_first.1
           ∙ sym (ap (λ r. (ran_with r line buffer).1) at_first.0);
       within =
-          put_within _ buffer c.answer-line.new.answers c.answer-line.result c.answer-line.auto.answers c.answer-line.ensures.buffer
-          c.answer-line.ensures.end;
+          put_within _ buffer c.answer_line.new.answers c.answer_line.result c.answer_line.auto.answers c.answer_line.ensures.buffer
+          c.answer_line.ensures.end;
       law =
           lines_lawful (byte_words c.args.card.now) (pads_of c.args.sheet.now) line
-          (card_read_well c.args.card.now (bytes_typed c.args.card.now c.type-inv.card) at_first.2) at_first.3
-          (bytes_typed line c.type-inv.line);
+          (card_read_well c.args.card.now (bytes_typed c.args.card.now c.type_inv.card) at_first.2) at_first.3
+          (bytes_typed line c.type_inv.line);
     }

@@ -4,7 +4,7 @@ use Rattle.pads.proofs.bytes.write_pads.Goals as goal
 
 pub loop-i-preserved : goal.loop-i-preserved
 loop-i-preserved c =
-    filled_more _ c.args.places.now c.loop-i.places c.loop-i.i c.pad-at.result (omega arith) c.pad-at.ensures
+    filled_more _ c.args.places.now c.loop-i.places c.loop-i.i c.pad_at.result (omega arith) c.pad_at.ensures
     c.loop-i.invariant
 
 pub returns : goal.returns

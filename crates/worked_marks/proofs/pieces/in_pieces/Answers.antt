@@ -9,7 +9,7 @@ pub loop-at-preserved : goal.loop-at-preserved
 loop-at-preserved g c =
     let doc = c.args.document.now in
     let at = c.loop-at.at in
-    let n = c.next-size-n.result in
+    let n = c.next_size-n.result in
     let job = fresh c.args.label in
     let z : at + n - at ≡ n = omega arith in
     let part : take at doc ++ take (at + n - at) (drop at doc) ≡ take (at + n) doc = ap (λ k. take at doc ++ take k (drop at doc)) z ∙ take_next doc at n in
@@ -22,4 +22,4 @@ pub returns : goal.returns
 returns g c =
     let doc = c.args.document.now in
     let whole = subst (λ ys. Holds g.F.Family.meaning c.args.card.now (fed (fresh c.args.label) ys) c.loop-at.job) (take_all c.loop-at.at doc (omega arith)) c.loop-at.invariant.1 in
-    c.root-tag.ensures ∙ (c.close.ensures _ _ whole).root
+    c.root_tag.ensures ∙ (c.close.ensures _ _ whole).root

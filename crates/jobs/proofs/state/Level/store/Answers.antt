@@ -8,5 +8,5 @@ returns c =
     let n = c.args.self.now.count in
     record {
       count = refl;
-      words = take_two ws n c.split-tag-low.result.0 c.split-tag-low.result.1 (omega arith) ∙ ap (λ xs. take (2 * n) ws ++ xs) c.split-tag-low.ensures;
+      words = take_two ws n c.split_tag-low.result.0 c.split_tag-low.result.1 (omega arith) ∙ ap (λ xs. take (2 * n) ws ++ xs) c.split_tag-low.ensures;
     }

@@ -4,4 +4,4 @@ use Rattle.jobs.proofs.state.OpenJob.take_piece.Goals as goal
 
 pub returns : goal.returns
 returns g c =
-    taken g.F.Family.meaning c.args.self.now _ c.args.piece.now (bytes_typed c.args.piece.now c.type-inv.piece) refl refl refl c.feed.ensures.waits c.feed.ensures.holds
+    taken g.F.Family.meaning c.args.self.now _ c.args.piece.now (bytes_typed c.args.piece.now c.type_inv.piece) refl refl refl c.feed.ensures.waits c.feed.ensures.holds

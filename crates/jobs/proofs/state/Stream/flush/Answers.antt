@@ -5,5 +5,5 @@ use Rattle.jobs.proofs.state.Stream.flush.Goals as goal
 pub returns : goal.returns
 returns g c = record {
   filled = refl;
-  holds = flushed g.F.Family.meaning c.args.card.now c.args.self.now _ c.full-tag-tag.result c.push-all.ensures c.requires.0 (omega arith) refl c.full-tag-tag.ensures;
+  holds = flushed g.F.Family.meaning c.args.card.now c.args.self.now _ c.full_tag-tag.result c.push_all.ensures c.requires.0 (omega arith) refl c.full_tag-tag.ensures;
 }
