@@ -51,8 +51,8 @@ fn write_struck(fates: &[Fate], places: &mut [u32]) -> usize
 impl<S: PadSource> OfficeBook<S> {
     // Writes each struck number once, in any order, and says how many there are.
     pub fn list_struck(&self, places: &mut [u32]) -> Result<usize, FewPlaces>
-        ensures answer { result ≡ listing (office_view pads self.now).fates (length places.old) }
-        ensures places { MatchResult result (λ k. Listed (office_view pads self.now).fates places.old places.new k) (λ _. places.new ≡ places.old) }
+        ensures answer { result ≡ listing (office_view S.pads self.now).fates (length places.old) }
+        ensures places { MatchResult result (λ k. Listed (office_view S.pads self.now).fates places.old places.new k) (λ _. places.new ≡ places.old) }
     {
         if places.len() < count_struck(&self.fates) {
             return Err(FewPlaces);

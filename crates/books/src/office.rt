@@ -29,7 +29,7 @@ impl<S: PadSource> OfficeBook<S> {
     pub fn open(source: S) -> Result<OfficeBook<S>, PadCountError>
     where
         S: Drop,
-        ensures { result_map_both (office_view pads) (λ e. e) result ≡ opening (length (pads source)) (opened (pads source)) }
+        ensures { result_map_both (office_view S.pads) (λ e. e) result ≡ opening (length (S.pads source)) (opened (S.pads source)) }
     {
         check_count(source.count())?;
         Ok(OfficeBook {
@@ -42,7 +42,7 @@ impl<S: PadSource> OfficeBook<S> {
 
     // The pad of a number.
     fn pad(&self, number: u32) -> Result<u64, NoSuchPad>
-        ensures answer { result ≡ asked (office_view pads self.now).pads number }
+        ensures answer { result ≡ asked (office_view S.pads self.now).pads number }
         ensures within { OnOk result (number < 256) }
     {
         if (number as usize) < MOST_PADS {
@@ -54,7 +54,7 @@ impl<S: PadSource> OfficeBook<S> {
 
     // Records what became of the pad that was out.
     fn use_up(&mut self, number: u32, fate: Fate)
-        ensures { office_view pads self.new ≡ spent fate number (office_view pads self.old) }
+        ensures { office_view S.pads self.new ≡ spent fate number (office_view S.pads self.old) }
     {
         self.out = None;
         write_at(&mut self.fates, number as usize, fate);
@@ -62,8 +62,8 @@ impl<S: PadSource> OfficeBook<S> {
 
     // Hands out the next number's pad.
     pub fn take(&mut self) -> Result<Pad, TakeError>
-        ensures answer { result ≡ (taken (office_view pads self.old)).0 }
-        ensures book { office_view pads self.new ≡ (taken (office_view pads self.old)).1 }
+        ensures answer { result ≡ (taken (office_view S.pads self.old)).0 }
+        ensures book { office_view S.pads self.new ≡ (taken (office_view S.pads self.old)).1 }
     {
         let number = self.next;
         match (self.out, self.pad(number)) {
@@ -79,7 +79,7 @@ impl<S: PadSource> OfficeBook<S> {
 
     // Whether this is the pad that is out here.
     fn is_out(&self, pad: &Pad) -> bool
-        ensures { result ≡ held pad.now (office_view pads self.now) }
+        ensures { result ≡ held pad.now (office_view S.pads self.now) }
     {
         match (self.out, self.pad(pad.number)) {
             (Some(number), Ok(value)) => number == pad.number && value == pad.value,
@@ -89,8 +89,8 @@ impl<S: PadSource> OfficeBook<S> {
 
     // Uses the pad up, and records what became of its number if it is out here.
     fn spend(&mut self, pad: Pad, fate: Fate) -> Result<(), WrongPad>
-        ensures answer { result ≡ (used fate pad (office_view pads self.old)).0 }
-        ensures book { office_view pads self.new ≡ (used fate pad (office_view pads self.old)).1 }
+        ensures answer { result ≡ (used fate pad (office_view S.pads self.old)).0 }
+        ensures book { office_view S.pads self.new ≡ (used fate pad (office_view S.pads self.old)).1 }
     {
         let out = self.is_out(&pad);
         let Pad { number, value: _ } = pad;
@@ -104,8 +104,8 @@ impl<S: PadSource> OfficeBook<S> {
 
     // Seals a closed job with the pad, and gives the number and the tag.
     pub fn seal<F: Family>(&mut self, pad: Pad, job: &ClosedJob<F>) -> Result<(u32, u64), WrongPad>
-        ensures answer { result ≡ (sealed F.Family.meaning.modulus job.now.root pad (office_view pads self.old)).0 }
-        ensures book { office_view pads self.new ≡ (sealed F.Family.meaning.modulus job.now.root pad (office_view pads self.old)).1 }
+        ensures answer { result ≡ (sealed F.meaning.modulus job.now.root pad (office_view S.pads self.old)).0 }
+        ensures book { office_view S.pads self.new ≡ (sealed F.meaning.modulus job.now.root pad (office_view S.pads self.old)).1 }
     {
         let number = pad.number;
         let tag = F::add_pad(job.root_tag(), pad.value);
@@ -115,16 +115,16 @@ impl<S: PadSource> OfficeBook<S> {
 
     // Strikes the pad's number.
     pub fn strike(&mut self, pad: Pad) -> Result<(), WrongPad>
-        ensures answer { result ≡ (struck pad (office_view pads self.old)).0 }
-        ensures book { office_view pads self.new ≡ (struck pad (office_view pads self.old)).1 }
+        ensures answer { result ≡ (struck pad (office_view S.pads self.old)).0 }
+        ensures book { office_view S.pads self.new ≡ (struck pad (office_view S.pads self.old)).1 }
     {
         self.spend(pad, Fate::Struck)
     }
 
     // Strikes the number that is out, where its pad went to another book, and says which it is.
     pub fn call_in(&mut self) -> Result<u32, NoneOut>
-        ensures answer { result ≡ (called_in (office_view pads self.old)).0 }
-        ensures book { office_view pads self.new ≡ (called_in (office_view pads self.old)).1 }
+        ensures answer { result ≡ (called_in (office_view S.pads self.old)).0 }
+        ensures book { office_view S.pads self.new ≡ (called_in (office_view S.pads self.old)).1 }
     {
         match self.out {
             None => Err(NoneOut),

@@ -15,8 +15,8 @@ pub fn open_books<S: PadSource + Drop, U: PadSource + Drop>(
     office: S,
     table: U,
 ) -> Result<(OfficeBook<S>, TableBook<U>), PadCountError>
-    ensures given { result_map_both (books_view S.PadSource.pads U.PadSource.pads) (λ e. e) result ≡ starting (S.PadSource.pads office) (U.PadSource.pads table) }
-    ensures law { IfOk result (λ both. S.PadSource.pads office ≡ U.PadSource.pads table → LawFrom (books_view S.PadSource.pads U.PadSource.pads both)) }
+    ensures given { result_map_both (books_view S.pads U.pads) (λ e. e) result ≡ starting (S.pads office) (U.pads table) }
+    ensures law { IfOk result (λ both. S.pads office ≡ U.pads table → LawFrom (books_view S.pads U.pads both)) }
 {
     let office = OfficeBook::open(office)?;
     let table = TableBook::open(table)?;

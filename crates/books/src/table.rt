@@ -17,7 +17,7 @@ impl<S: PadSource> TableBook<S> {
     pub fn open(source: S) -> Result<TableBook<S>, PadCountError>
     where
         S: Drop,
-        ensures { result_map_both (table_view pads) (λ e. e) result ≡ opening (length (pads source)) (laid (pads source)) }
+        ensures { result_map_both (table_view S.pads) (λ e. e) result ≡ opening (length (S.pads source)) (laid (S.pads source)) }
     {
         check_count(source.count())?;
         Ok(TableBook { source, floor: 0 })
@@ -30,8 +30,8 @@ impl<S: PadSource> TableBook<S> {
         number: u32,
         tag: u64,
     ) -> Result<(), CheckError>
-        ensures answer { result ≡ (checked F.Family.meaning.modulus job.now.root number tag (table_view pads self.old)).0 }
-        ensures book { table_view pads self.new ≡ (checked F.Family.meaning.modulus job.now.root number tag (table_view pads self.old)).1 }
+        ensures answer { result ≡ (checked F.meaning.modulus job.now.root number tag (table_view S.pads self.old)).0 }
+        ensures book { table_view S.pads self.new ≡ (checked F.meaning.modulus job.now.root number tag (table_view S.pads self.old)).1 }
     {
         let pad = self.source.pad(number)?;
         if u64::from(number) < self.floor {

@@ -14,7 +14,7 @@ pub(crate) trait Pairing {
 // The sum over the pairs modulo 2^64, at lengths that were checked.
 pub(crate) fn pair_sum<P: Pairing>(keys: &[u32], words: &[u32]) -> u64
     requires { (length keys.now ≡ length words.now) × (length words.now % 2 ≡ 0) }
-    ensures { result ≡ pair_sum P.Pairing.gives keys.now words.now % 2 ^ 64 }
+    ensures { result ≡ pair_sum P.gives keys.now words.now % 2 ^ 64 }
 {
     let mut sum: u64 = 0;
     for (k, w) in keys.chunks_exact(2).zip(words.chunks_exact(2)) {

@@ -20,7 +20,7 @@ pub(crate) fn read_words(bytes: &[u8], words: &mut [u32])
 // The tag of a block of words, under the first words of a stretch of the card.
 pub(crate) fn words_tag<F: Family>(keys: &[u32], words: &[u32]) -> u64
     requires { (32 ≤ length keys.now) × ((length words.now ≤ 32) × (length words.now % 2 ≡ 0)) }
-    ensures { result ≡ block_tag F.Family.meaning keys.now words.now }
+    ensures { result ≡ block_tag F.meaning keys.now words.now }
 {
     match F::tag(&keys[0..words.len()], words) {
         Ok(tag) => tag,
@@ -31,7 +31,7 @@ pub(crate) fn words_tag<F: Family>(keys: &[u32], words: &[u32]) -> u64
 // The tag of a whole block of 128 bytes, under the words of a card from level 1 on.
 pub(crate) fn full_tag<F: Family>(keys: &[u32], bytes: &[u8]) -> u64
     requires { (160 ≤ length keys.now) × (length bytes.now ≡ 128) }
-    ensures { result ≡ bytes_tag F.Family.meaning keys.now bytes.now }
+    ensures { result ≡ bytes_tag F.meaning keys.now bytes.now }
 {
     let mut words = [0u32; 32];
     read_words(bytes, &mut words);
@@ -51,7 +51,7 @@ fn fill_up(bytes: &[u8]) -> [u8; 128]
 // The tag of a last block of at most 128 bytes, filled with zero bytes to a multiple of eight.
 pub(crate) fn last_tag<F: Family>(keys: &[u32], bytes: &[u8]) -> u64
     requires { (32 ≤ length keys.now) × (length bytes.now ≤ 128) }
-    ensures { result ≡ bytes_tag F.Family.meaning keys.now bytes.now }
+    ensures { result ≡ bytes_tag F.meaning keys.now bytes.now }
 {
     let block = fill_up(bytes);
     let mut words = [0u32; 32];

@@ -6,6 +6,6 @@ use families::Family;
 // Computes nothing. Its contract states the laws of blocks, levels and root lists.
 pub fn layout_laws<F: Family>()
     ensures blocks { BlocksJoin }
-    ensures top { OneTop F.Family.meaning }
-    ensures apart { JobsApart F.Family.meaning }
+    ensures top { OneTop F.meaning }
+    ensures apart { JobsApart F.meaning }
 {}

@@ -28,7 +28,7 @@ impl Level {
     // The tag of the block that waits here.
     fn tag<F: Family>(&self, keys: &[u32]) -> u64
         requires { 32 ≤ length keys.now }
-        ensures { result ≡ block_tag F.Family.meaning keys.now (take (2 * self.now.count) self.now.words) }
+        ensures { result ≡ block_tag F.meaning keys.now (take (2 * self.now.count) self.now.words) }
     {
         words_tag::<F>(keys, &self.words[0..2 * self.count])
     }
@@ -48,7 +48,7 @@ impl Level {
     // Takes a tag in; where the block was full, hands on its tag and begins another.
     fn push<F: Family>(&mut self, keys: &[u32], tag: u64) -> Option<u64>
         requires { 32 ≤ length keys.now }
-        ensures { (ts ups : List ℕ) → LevelHolds F.Family.meaning keys.now self.old ts ups → LevelHolds F.Family.meaning keys.now self.new (ts ++ tag ∷ []) (ups ++ option_to_list result) }
+        ensures { (ts ups : List ℕ) → LevelHolds F.meaning keys.now self.old ts ups → LevelHolds F.meaning keys.now self.new (ts ++ tag ∷ []) (ups ++ option_to_list result) }
     {
         if self.count < FULL {
             self.store(tag);
@@ -64,7 +64,7 @@ impl Level {
 // Takes a tag into the lowest of some levels, and what it hands on into those above.
 pub(crate) fn push_all<F: Family>(levels: &mut [Level], keys: &[u32], tag: u64)
     requires { 32 * length levels.old ≤ length keys.now }
-    ensures { (ts : List ℕ) → LevelsHold F.Family.meaning keys.now levels.old ts → LevelsHold F.Family.meaning keys.now levels.new (ts ++ tag ∷ []) }
+    ensures { (ts : List ℕ) → LevelsHold F.meaning keys.now levels.old ts → LevelsHold F.meaning keys.now levels.new (ts ++ tag ∷ []) }
 {
     if levels.len() == 0 {
         return;
@@ -77,7 +77,7 @@ pub(crate) fn push_all<F: Family>(levels: &mut [Level], keys: &[u32], tag: u64)
 // The one tag that the highest of some levels gives, once all tags are in.
 pub(crate) fn top<F: Family>(levels: &mut [Level], keys: &[u32]) -> u64
     requires { (0 < length levels.old) × (32 * length levels.old ≤ length keys.now) }
-    ensures { (ts : List ℕ) → LevelsHold F.Family.meaning keys.now levels.old ts → 0 < length ts → length ts ≤ 16 ^ length levels.old → result ≡ slice_index (climb F.Family.meaning (length levels.old) keys.now ts) 0 }
+    ensures { (ts : List ℕ) → LevelsHold F.meaning keys.now levels.old ts → 0 < length ts → length ts ≤ 16 ^ length levels.old → result ≡ slice_index (climb F.meaning (length levels.old) keys.now ts) 0 }
 {
     let tag = levels[0].tag::<F>(keys);
     if levels.len() == 1 {

@@ -23,7 +23,7 @@ impl<F: Family> OpenJob<F> {
     // A job with an empty document, on its own copy of a card of the right length.
     fn start(card: &[u32], label: u32) -> OpenJob<F>
         requires { length card.now ≡ 164 }
-        ensures { Holds F.Family.meaning card.now (fresh label) result }
+        ensures { Holds F.meaning card.now (fresh label) result }
     {
         let mut copy = [0u32; 164];
         copy.copy_from_slice(card);
@@ -38,7 +38,7 @@ impl<F: Family> OpenJob<F> {
 
     // A job with an empty document, on its own copy of the card.
     pub fn open(card: &[u32], label: u32) -> Result<OpenJob<F>, CardError>
-        ensures { Opened F.Family.meaning card.now label result }
+        ensures { Opened F.meaning card.now label result }
     {
         if card.len() != WORDS {
             return Err(CardError);
@@ -49,7 +49,7 @@ impl<F: Family> OpenJob<F> {
     // Takes a piece for which there is room.
     fn take_piece(&mut self, piece: &[u8])
         requires { self.old.length + length piece.now ≤ 8388608 }
-        ensures { (card : List ℕ) (job : Job) → Holds F.Family.meaning card job self.old → Holds F.Family.meaning card (fed job piece.now) self.new }
+        ensures { (card : List ℕ) (job : Job) → Holds F.meaning card job self.old → Holds F.meaning card (fed job piece.now) self.new }
     {
         self.stream.feed::<F>(&self.card, piece);
         self.length += piece.len();
@@ -58,7 +58,7 @@ impl<F: Family> OpenJob<F> {
     // Takes a piece of the document, or refuses it and stays as it was.
     pub fn feed(&mut self, piece: &[u8]) -> Result<(), TooLong>
         ensures answer { result ≡ feed_answer self.old.length (length piece.now) }
-        ensures holds { Fed F.Family.meaning self.old piece.now self.new result }
+        ensures holds { Fed F.meaning self.old piece.now self.new result }
     {
         if piece.len() > LIMIT - self.length {
             return Err(TooLong);
@@ -69,7 +69,7 @@ impl<F: Family> OpenJob<F> {
 
     // The tag of the root list, once the document is all in.
     fn root(&self) -> u64
-        ensures { (card : List ℕ) (job : Job) → Holds F.Family.meaning card job self.now → result ≡ root_tag F.Family.meaning card job }
+        ensures { (card : List ℕ) (job : Job) → Holds F.meaning card job self.now → result ≡ root_tag F.meaning card job }
     {
         let mut stream = self.stream;
         let top = stream.close::<F>(&self.card);
@@ -82,7 +82,7 @@ impl<F: Family> OpenJob<F> {
 
     // Ends the document.
     pub fn close(self) -> ClosedJob<F>
-        ensures { (card : List ℕ) (job : Job) → Holds F.Family.meaning card job self → Closed F.Family.meaning card job result }
+        ensures { (card : List ℕ) (job : Job) → Holds F.meaning card job self → Closed F.meaning card job result }
     {
         ClosedJob {
             root: self.root(),

@@ -18,7 +18,7 @@ impl Stream {
     // A stream that has taken nothing.
     pub(crate) fn empty<F: Family>() -> Stream
         ensures filled { result.filled ≡ 0 }
-        ensures holds { (card : List ℕ) → StreamHolds F.Family.meaning card result [] }
+        ensures holds { (card : List ℕ) → StreamHolds F.meaning card result [] }
     {
         Stream {
             block: [0; 128],
@@ -36,7 +36,7 @@ impl Stream {
     fn flush<F: Family>(&mut self, card: &[u32])
         requires { (self.old.filled ≡ 128) × (160 ≤ length card.now) }
         ensures filled { self.new.filled ≡ 0 }
-        ensures holds { (doc : List ℕ) → StreamHolds F.Family.meaning card.now self.old doc → StreamHolds F.Family.meaning card.now self.new doc }
+        ensures holds { (doc : List ℕ) → StreamHolds F.meaning card.now self.old doc → StreamHolds F.meaning card.now self.new doc }
     {
         let tag = full_tag::<F>(card, &self.block);
         push_all::<F>(&mut self.levels, &card[SECOND..], tag);
@@ -47,7 +47,7 @@ impl Stream {
     fn pass<F: Family>(&mut self, card: &[u32], bytes: &[u8])
         requires { (self.old.filled ≡ 0) × ((length bytes.now ≡ 128) × (160 ≤ length card.now)) }
         ensures filled { self.new.filled ≡ 0 }
-        ensures holds { (doc : List ℕ) → StreamHolds F.Family.meaning card.now self.old doc → StreamHolds F.Family.meaning card.now self.new (doc ++ bytes.now) }
+        ensures holds { (doc : List ℕ) → StreamHolds F.meaning card.now self.old doc → StreamHolds F.meaning card.now self.new (doc ++ bytes.now) }
     {
         let tag = full_tag::<F>(card, bytes);
         push_all::<F>(&mut self.levels, &card[SECOND..], tag);
@@ -57,7 +57,7 @@ impl Stream {
     fn keep<F: Family>(&mut self, part: &[u8])
         requires { self.old.filled + length part.now ≤ 128 }
         ensures filled { self.new.filled ≡ self.old.filled + length part.now }
-        ensures holds { (card doc : List ℕ) → StreamHolds F.Family.meaning card self.old doc → StreamHolds F.Family.meaning card self.new (doc ++ part.now) }
+        ensures holds { (card doc : List ℕ) → StreamHolds F.meaning card self.old doc → StreamHolds F.meaning card self.new (doc ++ part.now) }
     {
         let end = self.filled + part.len();
         self.block[self.filled..end].copy_from_slice(part);
@@ -68,7 +68,7 @@ impl Stream {
     fn make_room<F: Family>(&mut self, card: &[u32])
         requires { 160 ≤ length card.now }
         ensures room { self.new.filled < 128 }
-        ensures holds { (doc : List ℕ) → StreamHolds F.Family.meaning card.now self.old doc → StreamHolds F.Family.meaning card.now self.new doc }
+        ensures holds { (doc : List ℕ) → StreamHolds F.meaning card.now self.old doc → StreamHolds F.meaning card.now self.new doc }
     {
         if self.filled == BLOCK {
             self.flush::<F>(card);
@@ -80,7 +80,7 @@ impl Stream {
         requires { (self.old.filled < 128) × ((0 < length bytes.now) × (160 ≤ length card.now)) }
         ensures some { (0 < result) × (result ≤ length bytes.now) }
         ensures waits { result ≡ length bytes.now → 0 < self.new.filled }
-        ensures holds { (doc : List ℕ) → StreamHolds F.Family.meaning card.now self.old doc → StreamHolds F.Family.meaning card.now self.new (doc ++ take result bytes.now) }
+        ensures holds { (doc : List ℕ) → StreamHolds F.meaning card.now self.old doc → StreamHolds F.meaning card.now self.new (doc ++ take result bytes.now) }
     {
         if self.filled == 0 && bytes.len() > BLOCK {
             self.pass::<F>(card, &bytes[0..BLOCK]);
@@ -95,7 +95,7 @@ impl Stream {
     pub(crate) fn feed<F: Family>(&mut self, card: &[u32], piece: &[u8])
         requires { 160 ≤ length card.now }
         ensures waits { 0 < self.old.filled + length piece.now → 0 < self.new.filled }
-        ensures holds { (doc : List ℕ) → StreamHolds F.Family.meaning card.now self.old doc → StreamHolds F.Family.meaning card.now self.new (doc ++ piece.now) }
+        ensures holds { (doc : List ℕ) → StreamHolds F.meaning card.now self.old doc → StreamHolds F.meaning card.now self.new (doc ++ piece.now) }
     {
         let mut at = 0;
         while at < piece.len() {
@@ -107,7 +107,7 @@ impl Stream {
     // The tag at the top of the levels, once the document is all in.
     pub(crate) fn close<F: Family>(&mut self, card: &[u32]) -> u64
         requires { 160 ≤ length card.now }
-        ensures { (doc : List ℕ) → StreamHolds F.Family.meaning card.now self.old doc → (0 < length doc → 0 < self.old.filled) → length doc ≤ 8388608 → result ≡ top_tag F.Family.meaning card.now doc }
+        ensures { (doc : List ℕ) → StreamHolds F.meaning card.now self.old doc → (0 < length doc → 0 < self.old.filled) → length doc ≤ 8388608 → result ≡ top_tag F.meaning card.now doc }
     {
         let tag = last_tag::<F>(card, &self.block[0..self.filled]);
         push_all::<F>(&mut self.levels, &card[SECOND..], tag);

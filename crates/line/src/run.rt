@@ -47,8 +47,8 @@ fn answer_line<S: PadSource + Drop>(
 ) -> usize
     requires short { length line.now ≤ 4096 }
     requires room { 13 * length line.now ≤ length answers.old }
-    ensures end { result ≡ length (unchosen_from card line.now 0 (record { books = record { office = office_view S.PadSource.pads office; table = table_view S.PadSource.pads table }; job = Nothing })) }
-    ensures buffer { answers.new ≡ put 0 (unchosen_from card line.now 0 (record { books = record { office = office_view S.PadSource.pads office; table = table_view S.PadSource.pads table }; job = Nothing })) answers.old }
+    ensures end { result ≡ length (unchosen_from card line.now 0 (record { books = record { office = office_view S.pads office; table = table_view S.pads table }; job = Nothing })) }
+    ensures buffer { answers.new ≡ put 0 (unchosen_from card line.now 0 (record { books = record { office = office_view S.pads office; table = table_view S.pads table }; job = Nothing })) answers.old }
 {
     match until_choice(line, answers) {
         Beginning::Ended { used } => used,

@@ -25,8 +25,8 @@ pub(crate) fn serve<F: Family, S: PadSource + Drop>(
     requires start { from ≤ length line.now }
     requires used { before ≤ 13 * from }
     requires room { 13 * length line.now ≤ length answers.old }
-    ensures end { result ≡ before + length (answers_from F.Family.meaning session.card line.now from (state_of S.PadSource.pads session Nothing)) }
-    ensures buffer { answers.new ≡ put before (answers_from F.Family.meaning session.card line.now from (state_of S.PadSource.pads session Nothing)) answers.old }
+    ensures end { result ≡ before + length (answers_from F.meaning session.card line.now from (state_of S.pads session Nothing)) }
+    ensures buffer { answers.new ≡ put before (answers_from F.meaning session.card line.now from (state_of S.pads session Nothing)) answers.old }
 {
     let mut at = from;
     let mut used = before;

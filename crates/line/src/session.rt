@@ -35,7 +35,7 @@ impl<F: Family, S: PadSource> Session<F, S> {
     }
 
     fn open(&mut self, label: u32) -> Result<Option<Answer>, Refusal>
-        ensures { Does S.PadSource.pads F.Family.meaning self.old self.new result (opens label) }
+        ensures { Does S.pads F.meaning self.old self.new result (opens label) }
     {
         if self.job.is_some() {
             return Err(Refusal::Session(SessionFault::Job));
@@ -46,7 +46,7 @@ impl<F: Family, S: PadSource> Session<F, S> {
     }
 
     fn feed(&mut self, piece: &[u8]) -> Result<Option<Answer>, Refusal>
-        ensures { Does S.PadSource.pads F.Family.meaning self.old self.new result (feeds piece.now) }
+        ensures { Does S.pads F.meaning self.old self.new result (feeds piece.now) }
     {
         match self.job.as_mut() {
             None => Err(Refusal::Session(SessionFault::Job)),
@@ -60,7 +60,7 @@ impl<F: Family, S: PadSource> Session<F, S> {
     // Ends the open job.
     fn close(&mut self) -> Result<ClosedJob<F>, SessionFault>
         ensures rest { self.new ≡ idle self.old }
-        ensures answer { (job : Option Job) → Stands F.Family.meaning self.old job → Ends F.Family.meaning self.old.card job result }
+        ensures answer { (job : Option Job) → Stands F.meaning self.old job → Ends F.meaning self.old.card job result }
     {
         match self.job.take() {
             None => Err(SessionFault::Job),
@@ -69,7 +69,7 @@ impl<F: Family, S: PadSource> Session<F, S> {
     }
 
     fn seal(&mut self) -> Result<Option<Answer>, Refusal>
-        ensures { Does S.PadSource.pads F.Family.meaning self.old self.new result (seals F.Family.meaning self.old.card) }
+        ensures { Does S.pads F.meaning self.old self.new result (seals F.meaning self.old.card) }
     {
         let job = self.close()?;
         let pad = self.office.take()?;
@@ -78,7 +78,7 @@ impl<F: Family, S: PadSource> Session<F, S> {
     }
 
     fn check(&mut self, number: u32, tag: u64) -> Result<Option<Answer>, Refusal>
-        ensures { Does S.PadSource.pads F.Family.meaning self.old self.new result (checks F.Family.meaning self.old.card number tag) }
+        ensures { Does S.pads F.meaning self.old self.new result (checks F.meaning self.old.card number tag) }
     {
         let job = self.close()?;
         self.table.check(&job, number, tag)?;
@@ -86,7 +86,7 @@ impl<F: Family, S: PadSource> Session<F, S> {
     }
 
     fn strike(&mut self) -> Result<Option<Answer>, Refusal>
-        ensures { Does S.PadSource.pads F.Family.meaning self.old self.new result strikes }
+        ensures { Does S.pads F.meaning self.old self.new result strikes }
     {
         let pad = self.office.take()?;
         let number = pad.number();
@@ -95,7 +95,7 @@ impl<F: Family, S: PadSource> Session<F, S> {
     }
 
     pub(crate) fn obey(&mut self, command: Command) -> Result<Option<Answer>, Refusal>
-        ensures { Does S.PadSource.pads F.Family.meaning self.old self.new result (obeyed F.Family.meaning self.old.card (order_of command.entry)) }
+        ensures { Does S.pads F.meaning self.old self.new result (obeyed F.meaning self.old.card (order_of command.entry)) }
     {
         match command {
             Command::Choose { family: _ } => Err(Refusal::Session(SessionFault::Choice)),
@@ -110,7 +110,7 @@ impl<F: Family, S: PadSource> Session<F, S> {
 
     // The end of the line, which no job may be open at.
     pub(crate) fn finish(&self) -> Result<Option<Answer>, Refusal>
-        ensures { (job : Option Job) → Stands F.Family.meaning self.now job → result ≡ finished job }
+        ensures { (job : Option Job) → Stands F.meaning self.now job → result ≡ finished job }
     {
         if self.job.is_some() {
             return Err(Refusal::Session(SessionFault::Job));

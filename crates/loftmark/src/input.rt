@@ -22,7 +22,7 @@ pub fn read_card_file(rt: &HostRuntime) -> Result<[u32; 164], Fault> {
 
 // Feeds the job all that standard input has, in pieces as they arrive: some bytes, behind what it had.
 fn feed_input<F: Family>(rt: &HostRuntime, job: &mut OpenJob<F>) -> Result<(), Fault>
-    ensures { OnOk result ((card : List ℕ) (j : Job) → Holds F.Family.meaning card j job.old → (doc : List ℕ) × Holds F.Family.meaning card (fed j doc) job.new) }
+    ensures { OnOk result ((card : List ℕ) (j : Job) → Holds F.meaning card j job.old → (doc : List ℕ) × Holds F.meaning card (fed j doc) job.new) }
 {
     let mut piece = [0u8; PIECE];
     let mut input = rt.stdin();
@@ -44,7 +44,7 @@ pub fn mark_input<F: Family>(
     card: &[u32],
     label: u32,
 ) -> Result<ClosedJob<F>, Fault>
-    ensures { IfOk result (λ closed. (doc : List ℕ) × Closed F.Family.meaning card.now (fed (fresh label) doc) closed) }
+    ensures { IfOk result (λ closed. (doc : List ℕ) × Closed F.meaning card.now (fed (fresh label) doc) closed) }
 {
     let mut job = OpenJob::<F>::open(card, label)?;
     println!(rt; "open    family {name}, label {label}")?;

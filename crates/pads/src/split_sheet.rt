@@ -19,7 +19,7 @@ impl<A: PadSource, B: PadSource> SplitSheet<A, B> {
 }
 
 impl<A: PadSource, B: PadSource> PadSource for SplitSheet<A, B> {
-    ghost pads = { λ s. summed (A.PadSource.pads s.left) (B.PadSource.pads s.right) };
+    ghost pads = { λ s. summed (A.pads s.left) (B.pads s.right) };
 
     fn count(&self) -> usize {
         self.left.count().min(self.right.count())

@@ -27,7 +27,7 @@ fn next_size(sizes: &[usize], turn: usize, left: usize) -> usize
 }
 
 fn in_pieces<F: Family>(card: &[u32], label: u32, document: &[u8], sizes: &[usize]) -> Option<u64>
-    ensures { IfSome result (λ tag. tag ≡ root_tag F.Family.meaning card.now (fed (fresh label) document.now)) }
+    ensures { IfSome result (λ tag. tag ≡ root_tag F.meaning card.now (fed (fresh label) document.now)) }
 {
     let Ok(mut job) = OpenJob::<F>::open(card, label) else {
         return None;
@@ -46,7 +46,7 @@ fn in_pieces<F: Family>(card: &[u32], label: u32, document: &[u8], sizes: &[usiz
 }
 
 fn past_limit<F: Family>(card: &[u32], label: u32, document: &[u8]) -> Option<u64>
-    ensures { IfSome result (λ tag. tag ≡ root_tag F.Family.meaning card.now (fed (fresh label) document.now)) }
+    ensures { IfSome result (λ tag. tag ≡ root_tag F.meaning card.now (fed (fresh label) document.now)) }
 {
     let Ok(mut job) = OpenJob::<F>::open(card, label) else {
         return None;
@@ -67,7 +67,7 @@ pub fn root_tag<F: Family>(
     document: &[u8],
     feeding: Feeding,
 ) -> Option<u64>
-    ensures { IfSome result (λ tag. tag ≡ root_tag F.Family.meaning card.now (fed (fresh label) document.now)) }
+    ensures { IfSome result (λ tag. tag ≡ root_tag F.meaning card.now (fed (fresh label) document.now)) }
 {
     match feeding {
         Feeding::Pieces(sizes) => in_pieces::<F>(card, label, document, sizes),
