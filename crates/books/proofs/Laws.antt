@@ -6,9 +6,9 @@ use Rattle.families.specs.Meanings.{Meaning, Lawful}
 use Rattle.jobs.specs.Roots.{Card, Job, root_list, root_tag}
 use Rattle.jobs.proofs.Colliding.{collide}
 use Rattle.books.specs.Counting.{times}
-use Rattle.books.specs.Law.{taking, spending, accepting, recording, through, Among, Once, Forged, Collides, LawFrom}
+use Rattle.books.specs.Law.{taking, spending, accepting, recording, through, Among, Once, Collides, LawFrom}
 use Rattle.books.specs.Office.{opened}
-use Rattle.books.specs.Runs.{Books, Event, Run, started}
+use Rattle.books.specs.Runs.{Books, Event, started}
 use Rattle.books.specs.Runs.Event.{seal, check}
 use Rattle.books.specs.Table.{laid}
 use Rattle.books.specs.declared.fate.Fate.TheVariants.{Sealed, Struck}

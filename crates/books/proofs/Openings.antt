@@ -2,10 +2,9 @@
 use Rattle.std.proofs.Common.{◌≡◌, ℕ, ◌≤◌, Bool, true, false, cond, ◌&&◌, leb, List, length, take, Ok, Err, Result, sym, refl, ap, ◌∙◌, arith}
 use Rattle.std.proofs.lemmas.Bool.{and_parts, leb-true, cond-true}
 use Rattle.std.proofs.lemmas.List.{take_all}
-use Rattle.books.specs.Office.{Office, opened}
+use Rattle.books.specs.Office.{opened}
 use Rattle.books.specs.Opening.{fits, opening}
-use Rattle.books.specs.Runs.{Books, started, starting}
-use Rattle.books.specs.Table.{Table, laid}
+use Rattle.books.specs.Runs.{started, starting}
 use Rattle.books.specs.declared.refusals.PadCountError.{PadCountError}
 
 ok_err : {B E : Type 0} (b : B) (e : E) → ◌≡◌ {A = Result B E} (Ok b) (Err e) → ⊥

@@ -1,5 +1,5 @@
 -- What each step and each run does.
-use Rattle.std.proofs.Common.{◌≡◌, ℕ, false, List, [], ◌∷◌, sym, refl, subst, inl, inr}
+use Rattle.std.proofs.Common.{◌≡◌, ℕ, false, List, [], ◌∷◌, sym, subst, inl, inr}
 use Rattle.jobs.specs.Roots.{Job, Proper}
 use Rattle.books.specs.Fates.{fate_is}
 use Rattle.books.specs.Law.{taking, spending, recording, accepting, through, Among}

@@ -1,5 +1,5 @@
 -- What the tag of a granted sealing is, and how far apart two tags under one pad are.
-use Rattle.std.proofs.Common.{◌≡◌, ℕ, ◌+◌, ◌-◌, ◌%◌, ◌<◌, ◌≤◌, Bool, true, false, List, Ok, Err, Result, sym, refl, ap, ◌∙◌, add-zero, mod-lt, mod-eq_of_lt, arith}
+use Rattle.std.proofs.Common.{◌≡◌, ℕ, ◌+◌, ◌-◌, ◌%◌, ◌<◌, Bool, true, false, List, Ok, Err, Result, sym, refl, ap, ◌∙◌, add-zero, mod-lt, mod-eq_of_lt, arith}
 use native.Mathlib.Nat.{mod-add-mod, add-mod-mod, add-mod_right}
 use Rattle.pads.specs.Sources.{asked}
 use Rattle.books.specs.Office.{Office, held, sealed}

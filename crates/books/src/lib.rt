@@ -1,4 +1,6 @@
 // The books that an office and a cutting table keep of one list of one-time pads, and the law over them.
+#![tactic(auto)]
+
 mod fate;
 mod listing;
 mod office;

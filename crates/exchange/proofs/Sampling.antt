@@ -1,5 +1,5 @@
 -- A run with every kind of event.
-use Rattle.std.proofs.Common.{◌≡◌, ℕ, ◌+◌, ◌%◌, ◌<◌, cond, eqb, ltb, List, Ok, Err, Result, sym, refl, ap, ◌∙◌, mod-lt, arith}
+use Rattle.std.proofs.Common.{◌≡◌, ℕ, ◌+◌, ◌%◌, ◌<◌, cond, eqb, ltb, Ok, Err, Result, sym, refl, ap, ◌∙◌, mod-lt, arith}
 use Rattle.std.proofs.lemmas.Bool.{lt-ltb, eq-eqb, cond-true}
 use Rattle.jobs.specs.Roots.{Job, Proper, root_tag}
 use Rattle.books.specs.Office.{Office, opened, handed, spent}

@@ -1,5 +1,5 @@
 -- What a transfer answers.
-use Rattle.std.specs.Prelude.{ℕ, ◌+◌, ◌%◌, cond, List, length, Ok, Err, Result, slice_index}
+use Rattle.std.specs.Prelude.{ℕ, ◌+◌, ◌%◌, cond, List, length, Err, Result, slice_index}
 use Rattle.std.specs.Result.{result_map_both}
 use Rattle.books.specs.Opening.{fits}
 use Rattle.books.specs.Table.{laid, checked}

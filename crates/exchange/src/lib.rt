@@ -1,4 +1,6 @@
 // One job from the office to the cutting table, and what the law says where another job is accepted in its place.
+#![tactic(auto)]
+
 mod laws;
 mod one_job;
 mod refusal;

@@ -1,5 +1,5 @@
 -- What a list of commands answers.
-use Rattle.std.specs.Prelude.{ℕ, ◌+◌, List, [], ◌∷◌, ◌++◌, length, Some, None, Ok, Err, Option, Result}
+use Rattle.std.specs.Prelude.{ℕ, List, [], ◌∷◌, ◌++◌, length, Some, None, Ok, Err, Option, Result}
 use Rattle.families.specs.Meanings.{Meaning}
 use Rattle.jobs.specs.Roots.{Job, root_tag}
 use Rattle.jobs.specs.Jobs.{fresh, fed, feed_answer}

@@ -1,4 +1,6 @@
 // The cutter line: commands in bytes, the session that obeys them, and the answers in bytes.
+#![tactic(auto)]
+
 mod answer;
 mod begin;
 mod choice;

@@ -1,4 +1,4 @@
-use Rattle.std.proofs.Common.{◌≡◌, take, sym, ap, ◌∙◌, arith, length-take, take_all}
+use Rattle.std.proofs.Common.{take, ap, ◌∙◌, arith, length-take, take_all}
 use Rattle.books.specs.Listing.{struck_count}
 use Rattle.books.proofs.Strucks.{struck_le, count_then, count_else}
 use Rattle.books.proofs.listing.count_struck.Goals as goal

@@ -1,4 +1,4 @@
-use Rattle.std.proofs.Common.{◌≡◌, ℕ, ◌+◌, ◌<◌, length, take, drop, sym, ap, ◌∙◌, subst, zero-add, arith, length-take, take_all}
+use Rattle.std.proofs.Common.{◌≡◌, ◌+◌, ◌<◌, length, take, sym, ap, ◌∙◌, zero-add, arith, take_all}
 use Rattle.books.specs.Counting.{times}
 use Rattle.books.specs.Listing.{struck_count}
 use Rattle.books.proofs.Strucks.{strucks, count_then, count_else, strucks_then, strucks_else, room_then, front_written, back_kept, times-strucks}

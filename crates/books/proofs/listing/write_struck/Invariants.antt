@@ -1,4 +1,4 @@
-use Rattle.std.proofs.Common.{◌≡◌, length, take, drop}
+use Rattle.std.proofs.Common.{◌≡◌, take, drop}
 use Rattle.books.specs.Listing.{struck_count}
 use Rattle.books.proofs.Strucks.{strucks}
 use Rattle.books.proofs.listing.write_struck.Given as goal

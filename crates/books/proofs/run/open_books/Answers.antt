@@ -1,7 +1,7 @@
-use Rattle.std.proofs.Common.{◌≡◌, ℕ, List, length, Ok, Err, sym, ap, ◌∙◌, subst}
+use Rattle.std.proofs.Common.{◌≡◌, ℕ, List, length, Ok, sym, ap, ◌∙◌, subst}
 use Rattle.books.specs.Law.{LawFrom}
 use Rattle.books.specs.Office.{opened}
-use Rattle.books.specs.Runs.{Books, started}
+use Rattle.books.specs.Runs.{started}
 use Rattle.books.specs.Table.{laid}
 use Rattle.books.specs.Views.{books_view}
 use Rattle.books.proofs.Laws.{law_holds}

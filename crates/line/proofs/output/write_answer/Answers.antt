@@ -12,6 +12,6 @@ returns c =
       end = ap (λ n. c.args.used + n) count;
       buffer =
           put_part c.args.used _ c.args.answers.now _ bytes (omega arith)
-          (c.copy-from-slice.ensures.after ∙ ap (take (c.encode-encoding.result.count - 0)) c.encode-encoding.ensures.holds
+          (c.copy_from_slice.ensures.after ∙ ap (take (c.encode-encoding.result.count - 0)) c.encode-encoding.ensures.holds
           ∙ take_at bytes (replicate (13 - length bytes) 0) (c.encode-encoding.result.count - 0) (omega arith));
     }

@@ -1,4 +1,4 @@
-use Rattle.std.proofs.Common.{◌≡◌, IfOk, Ok, Err, Result, sym, ◌∙◌, rules}
+use Rattle.std.proofs.Common.{IfOk, Ok, Err, Result, sym, ◌∙◌}
 use Rattle.books.proofs.Questions.{asked_take, asked_past}
 use Rattle.books.proofs.office_book.OfficeBook.pad.Goals as goal
 
