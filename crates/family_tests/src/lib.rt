@@ -1,4 +1,6 @@
 // Tags, pads and refusals of the families on examples.
+#![tactic(auto)]
+
 use families::{Family, Mmh, MmhStar, Nh, Nhs, WidthError, prime_modulus};
 
 #[cfg(test)]

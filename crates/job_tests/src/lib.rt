@@ -1,3 +1,5 @@
+#![tactic(auto)]
+
 // Examples of jobs, run.
 #[cfg(test)]
 mod tests {

@@ -1,3 +1,5 @@
+#![tactic(auto)]
+
 // Whole lines, run.
 #[cfg(test)]
 mod tests {

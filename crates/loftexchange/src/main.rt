@@ -1,4 +1,6 @@
 // loftexchange: an office and a cutting table exchange the panel files of one folder, and each step is printed.
+#![tactic(auto)]
+
 mod files;
 mod steps;
 

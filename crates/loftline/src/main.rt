@@ -1,5 +1,7 @@
 // loftline: runs the line on standard input over the key card in card.bin and the pads in sheet.bin, and writes the
 // answers.
+#![tactic(auto)]
+
 mod fault;
 mod input;
 
@@ -7,6 +9,7 @@ use fault::Fault;
 use input::{read_file, read_part};
 use line::{Answer, run_line};
 use std::io::Write;
+use std::process::ExitCode;
 
 // Room for the answers of the longest line.
 const ROOM: usize = 53_248;
@@ -33,10 +36,12 @@ fn run(rt: &HostRuntime) -> Result<(), Fault> {
     Ok(())
 }
 
-fn main(rt: HostRuntime) -> Result<(), Fault> {
-    let result = run(&rt);
-    if let Err(fault) = &result {
-        let _ = eprintln!(rt; "loftline: {fault}");
+fn main(rt: HostRuntime) -> ExitCode {
+    match run(&rt) {
+        Ok(()) => ExitCode::SUCCESS,
+        Err(fault) => {
+            let _ = eprintln!(rt; "loftline: {fault}");
+            ExitCode::FAILURE
+        }
     }
-    result
 }

@@ -1,4 +1,6 @@
 // loftmark FAMILY LABEL: marks the document on standard input under the key card in card.bin, and prints each step.
+#![tactic(auto)]
+
 mod fault;
 mod input;
 mod order;
@@ -7,6 +9,7 @@ use families::{Family, Mmh, MmhStar, Nh, Nhs};
 use fault::Fault;
 use input::{mark_input, read_card_file};
 use order::{FamilyName, read_order};
+use std::process::ExitCode;
 
 fn mark<F: Family>(rt: &HostRuntime, name: FamilyName, label: u32) -> Result<(), Fault> {
     let card = read_card_file(rt)?;
@@ -27,10 +30,12 @@ fn run(rt: &HostRuntime) -> Result<(), Fault> {
     }
 }
 
-fn main(rt: HostRuntime) -> Result<(), Fault> {
-    let result = run(&rt);
-    if let Err(fault) = &result {
-        let _ = eprintln!(rt; "loftmark: {fault}");
+fn main(rt: HostRuntime) -> ExitCode {
+    match run(&rt) {
+        Ok(()) => ExitCode::SUCCESS,
+        Err(fault) => {
+            let _ = eprintln!(rt; "loftmark: {fault}");
+            ExitCode::FAILURE
+        }
     }
-    result
 }

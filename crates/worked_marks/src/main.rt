@@ -1,5 +1,7 @@
 // Computes the root tags of marks.tsv and the answers of lines.tsv, which another implementation wrote, and says how
 // many agree.
+#![tactic(auto)]
+
 mod examples;
 mod lines;
 mod pieces;

@@ -1,4 +1,4 @@
-use Rattle.std.proofs.Common.{◌++◌, ◌∙◌, subst, arith}
+use Rattle.std.proofs.Common.{◌++◌, subst, arith}
 use Rattle.jobs.specs.Jobs.{Holds}
 use Rattle.jobs.proofs.Feeding.{fed_twice}
 use Rattle.loftmark.proofs.input.feed_input.Goals as goal
