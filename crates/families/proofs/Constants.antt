@@ -1,6 +1,6 @@
 -- A family with one tag for all messages is not lawful: every word at the pivot gives two messages the difference 0.
 use Rattle.std.proofs.Common.{◌≡◌, ℕ, zero, suc, ◌+◌, ◌%◌, ◌<◌, ◌≤◌, ◌≢◌, List, [], ◌∷◌, length, get_or, set, sym, refl, ap, ◌∙◌, add-zero, mod-eq_of_lt, arith, lit<, lit≤}
-use Rattle.std.specs.List.{AllByRecursion as All}
+use Rattle.std.specs.List.{AllByRecursion}
 use Rattle.families.specs.Counting.{Distinct}
 use Rattle.families.specs.Meanings.{Meaning, Words, Yields, Few, Sized, Lawful}
 
@@ -13,7 +13,7 @@ length-down : (n : ℕ) → length (down n) ≡ n
 length-down zero = refl
 length-down (suc n) = ap suc (length-down n)
 
-all-down : (P : ℕ → Type 0) (n : ℕ) → ((v : ℕ) → v < n → P v) → All P (down n)
+all-down : (P : ℕ → Type 0) (n : ℕ) → ((v : ℕ) → v < n → P v) → AllByRecursion P (down n)
 all-down P zero holds = tt
 all-down P (suc n) holds = (holds n (omega arith), all-down P n (λ v low. holds v (omega arith)))
 

@@ -1,3 +1,4 @@
 pub mod Widths
 pub mod Constants
 pub mod Chunks
+pub mod Signs

@@ -5,15 +5,4 @@ pub mod Places
 pub mod Pairs
 pub mod Primes
 pub mod Dots
-pub mod Wraps
-pub mod Classes
-pub mod DotsLemmas
-pub mod PlacesLemmas
-pub mod PrimesLemmas
-pub mod Residues
-pub mod Trials
-pub mod Stars
-pub mod Solutions
-pub mod Products
-pub mod Splits
-pub mod Signs
+pub mod Laws

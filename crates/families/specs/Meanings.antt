@@ -1,6 +1,6 @@
 -- What a family of universal hashes computes, and the law that makes it one.
 use Rattle.std.specs.Prelude.{◌≡◌, ℕ, ◌+◌, ◌%◌, ◌^◌, ◌<◌, ◌≤◌, ◌≢◌, List, length, slice_set}
-use Rattle.std.specs.List.{AllByRecursion as All}
+use Rattle.std.specs.List.{AllByRecursion}
 use Rattle.families.specs.Counting.{AtMost}
 
 -- A family by what it means: tags are below `modulus`; `tag` takes key words and message words;
@@ -12,7 +12,7 @@ pub record Meaning : Type 0 where
 
 -- each is a word: below 2^32
 abbrev pub Words : List ℕ → Type 0
-Words xs = All (λ x. x < 2 ^ 32) xs
+Words xs = AllByRecursion (λ x. x < 2 ^ 32) xs
 
 -- the word v, put at the pivot with the other words of the key ks kept, makes the tag of xs that of ys plus d
 abbrev pub Yields : Meaning → List ℕ → List ℕ → List ℕ → ℕ → ℕ → Type 0

@@ -1,7 +1,7 @@
 // MMH: the sum of the products of key and message words modulo 2^64, reduced once by the prime 2^32 + 15, then by 2^32.
 ghost use Rattle.std.specs.Prelude.{◌≡◌, ◌%◌, ◌^◌, length};
 ghost use Rattle.families.specs.Dots.{dot, mmh, products};
-ghost use Rattle.families.specs.Wraps.{mmh_lawful};
+ghost use Rattle.families.specs.Laws.Wraps.{mmh_lawful};
 
 use crate::family::Family;
 use crate::pairs::{Pairing, pair_sum};

@@ -1,7 +1,7 @@
 // MMH*: the sum of the products of key and message words, modulo the prime 2^32 + 15.
 ghost use Rattle.std.specs.Prelude.{◌≡◌, ◌+◌, ◌*◌, ◌%◌, ◌^◌, ◌≤◌, length};
 ghost use Rattle.families.specs.Dots.{dot, mmh_star};
-ghost use Rattle.families.specs.Stars.{star_lawful};
+ghost use Rattle.families.specs.Laws.Stars.{star_lawful};
 
 use crate::family::Family;
 use crate::prime::PRIME;

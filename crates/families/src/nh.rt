@@ -1,6 +1,6 @@
 // NH: the sum over pairs of (k1 + m1 mod 2^32) × (k2 + m2 mod 2^32), modulo 2^64.
 ghost use Rattle.families.specs.Pairs.{nh, product};
-ghost use Rattle.families.specs.Solutions.{nh_lawful};
+ghost use Rattle.families.specs.Laws.Solutions.{nh_lawful};
 
 use crate::family::Family;
 use crate::pairs::{Pairing, pair_sum};

@@ -2,7 +2,7 @@
 // is taken modulo 2^64.
 ghost use Rattle.std.specs.Prelude.{◌≡◌, ◌%◌, ◌^◌, ◌*ℤ◌};
 ghost use Rattle.families.specs.Pairs.{nhs, residue, signed_product, signed_sum};
-ghost use Rattle.families.specs.Signs.{nhs_lawful};
+ghost use Rattle.families.specs.Laws.Signs.{nhs_lawful};
 
 use crate::family::Family;
 use crate::pairs::{Pairing, pair_sum};

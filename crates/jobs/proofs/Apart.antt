@@ -1,7 +1,7 @@
 -- Different jobs have different root lists or different words at level 1, and level 5 gives one tag.
 use Rattle.std.proofs.Common.{◌≡◌, ℕ, zero, suc, ◌-◌, ◌*◌, ◌/◌, ◌^◌, ◌<◌, ◌≤◌, min, ◌≢◌, ◌⊎◌, List, ◌++◌, map, length, get_or, take, drop, sym, refl, ap, ◌∙◌, inl, inr, mod-lt, pow-suc, mul-suc, arith}
 use native.Mathlib.Nat.{div-add-mod}
-use Rattle.std.specs.List.{AllByRecursion as All}
+use Rattle.std.specs.List.{AllByRecursion}
 use Rattle.std.proofs.ByRecursion.{All-take, All-drop}
 use Rattle.std.proofs.lemmas.List.{length-map, length-take, length-drop, take-append-drop, nil_from_length}
 use Rattle.std.proofs.lemmas.Bool.{cases_eq}
@@ -37,8 +37,8 @@ one_top m card job proper =
     climb_one m 4 (drop 32 card) (map (block_tag m card) (first_words doc)) (omega arith) (omega arith)
 
 -- lists that are cut into as many blocks of the same words are the same, where blocks of one length are
-pub cut_same : (P : ℕ → Type 0) (f : List ℕ → List ℕ) → ((bs cs : List ℕ) → All P bs → All P cs → length bs ≡ length cs → f bs ≡ f cs → bs ≡ cs)
-    → (n c : ℕ) (bs cs : List ℕ) → All P bs → All P cs → length bs ≡ length cs → length bs ≤ n * c → map f (cut n c bs) ≡ map f (cut n c cs) → bs ≡ cs
+pub cut_same : (P : ℕ → Type 0) (f : List ℕ → List ℕ) → ((bs cs : List ℕ) → AllByRecursion P bs → AllByRecursion P cs → length bs ≡ length cs → f bs ≡ f cs → bs ≡ cs)
+    → (n c : ℕ) (bs cs : List ℕ) → AllByRecursion P bs → AllByRecursion P cs → length bs ≡ length cs → length bs ≤ n * c → map f (cut n c bs) ≡ map f (cut n c cs) → bs ≡ cs
 cut_same P f same n zero bs cs ok ok' long few e =
     let z : length bs ≡ 0 = omega arith in
     nil_from_length bs z ∙ sym (nil_from_length cs (sym long ∙ z))
@@ -55,8 +55,8 @@ cut_same P f same n (suc c) bs cs ok ok' long few e =
     sym (take-append-drop n bs) ∙ ap (λ xs. xs ++ drop n bs) front ∙ ap (λ xs. take n cs ++ xs) back ∙ take-append-drop n cs
 
 -- the same of all blocks, of n items each
-pub blocks_same : (P : ℕ → Type 0) (f : List ℕ → List ℕ) → ((bs cs : List ℕ) → All P bs → All P cs → length bs ≡ length cs → f bs ≡ f cs → bs ≡ cs)
-    → (n : ℕ) (bs cs : List ℕ) → 0 < n → All P bs → All P cs → length bs ≡ length cs → map f (blocks n bs) ≡ map f (blocks n cs) → bs ≡ cs
+pub blocks_same : (P : ℕ → Type 0) (f : List ℕ → List ℕ) → ((bs cs : List ℕ) → AllByRecursion P bs → AllByRecursion P cs → length bs ≡ length cs → f bs ≡ f cs → bs ≡ cs)
+    → (n : ℕ) (bs cs : List ℕ) → 0 < n → AllByRecursion P bs → AllByRecursion P cs → length bs ≡ length cs → map f (blocks n bs) ≡ map f (blocks n cs) → bs ≡ cs
 blocks_same P f same n bs cs pos ok ok' long e =
     let k = (length bs - 1) / n in
     let count : suc ((length cs - 1) / n) ≡ suc k = ap (λ l. suc ((l - 1) / n)) (sym long) in

@@ -2,7 +2,7 @@
 use Rattle.std.proofs.Common.{◌≡◌, ℕ, zero, suc, ◌+◌, ◌-◌, ◌*◌, ◌/◌, ◌%◌, ◌^◌, ◌<◌, ◌≤◌, ◌≢◌, ◌⊎◌, List, [], ◌∷◌, map, length, get_or, take, drop, set, sym, refl, ap, ◌∙◌, subst, inl, inr, add-zero, mod-eq_of_lt, arith}
 use native.Mathlib.Nat.{mod-eq-sub-mod}
 use lib.Seq.{take-set-lt}
-use Rattle.std.specs.List.{AllByRecursion as All}
+use Rattle.std.specs.List.{AllByRecursion}
 use Rattle.std.proofs.ByRecursion.{All-take, All-drop, All-get_or, All-weaker}
 use Rattle.std.proofs.lemmas.List.{length-drop, length-take-le, length-map, take_all, take-take, drop-set-add, set-get_or, get_or-map}
 use Rattle.std.proofs.lemmas.Bool.{cases_eq, cases_lt}
@@ -33,7 +33,7 @@ one_item (x ∷ []) e = refl
 one_item (x ∷ y ∷ xs) e = absurd (omega arith)
 
 -- tags that make the same words are the same
-tags_words_same : (P : ℕ → Type 0) (ts us : List ℕ) → All P ts → All P us → length ts ≡ length us → tags_words ts ≡ tags_words us → ts ≡ us
+tags_words_same : (P : ℕ → Type 0) (ts us : List ℕ) → AllByRecursion P ts → AllByRecursion P us → length ts ≡ length us → tags_words ts ≡ tags_words us → ts ≡ us
 tags_words_same P [] [] ok ok' long e = refl
 tags_words_same P [] (u ∷ us) ok ok' long e = absurd (omega arith)
 tags_words_same P (t ∷ ts) [] ok ok' long e = absurd (omega arith)

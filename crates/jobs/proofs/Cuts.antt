@@ -1,7 +1,7 @@
 -- Lists cut into blocks.
 use Rattle.std.proofs.Common.{◌≡◌, ℕ, zero, suc, ◌+◌, ◌-◌, ◌*◌, ◌/◌, ◌<◌, ◌≤◌, ◌⊎◌, List, [], ◌∷◌, ◌++◌, length, take, drop, set, sym, refl, ap, ◌∙◌, subst, inl, inr, append_assoc, mod-lt, mul_comm, mul-zero, mul-add, arith, length-append}
 use native.Mathlib.Nat.{div-eq_of_lt-le, zero-div, div-add-mod}
-use Rattle.std.specs.List.{flat_map, AllByRecursion as All}
+use Rattle.std.specs.List.{flat_map, AllByRecursion}
 use Rattle.std.proofs.ByRecursion.{All-push}
 use Rattle.std.proofs.lemmas.List.{take_more_set, append-nil, length-set, length-take-le, length-drop, take_at, drop_at, take_all, take-append-drop, take-take, drop-take, nil_from_length}
 use Rattle.std.proofs.lemmas.Bool.{cases_lt}
@@ -50,7 +50,7 @@ pub split_none : {X : Type 0} {n : ℕ} → Split {X = X} n [] [] []
 split_none = record { joins = refl; full = tt; short = omega arith }
 
 -- how long a list is that is cut so
-split_length : {X : Type 0} (n : ℕ) (whole : List (List X)) (rest : List X) → All (λ b. length b ≡ n) whole → length (flat_map (λ b. b) whole ++ rest) ≡ n * length whole + length rest
+split_length : {X : Type 0} (n : ℕ) (whole : List (List X)) (rest : List X) → AllByRecursion (λ b. length b ≡ n) whole → length (flat_map (λ b. b) whole ++ rest) ≡ n * length whole + length rest
 split_length n [] rest f = omega arith
 split_length n (b ∷ whole) rest f =
     ap length (append_assoc b (flat_map (λ c. c) whole) rest)
@@ -61,7 +61,7 @@ pub split_long : {X : Type 0} {n : ℕ} {xs : List X} {whole : List (List X)} {r
 split_long {n = n} {whole = whole} {rest = rest} s = ap length s.joins ∙ split_length n whole rest s.full
 
 -- the blocks of a list that is cut so
-cut_whole : {X : Type 0} (n : ℕ) (whole : List (List X)) (rest : List X) → All (λ b. length b ≡ n) whole → length rest ≤ n → cut n (suc (length whole)) (flat_map (λ b. b) whole ++ rest) ≡ whole ++ rest ∷ []
+cut_whole : {X : Type 0} (n : ℕ) (whole : List (List X)) (rest : List X) → AllByRecursion (λ b. length b ≡ n) whole → length rest ≤ n → cut n (suc (length whole)) (flat_map (λ b. b) whole ++ rest) ≡ whole ++ rest ∷ []
 cut_whole n [] rest f h = ap (λ b. b ∷ []) (take_all n rest h)
 cut_whole n (b ∷ whole) rest f h =
     let e = append_assoc b (flat_map (λ c. c) whole) rest in

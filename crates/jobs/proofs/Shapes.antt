@@ -1,6 +1,6 @@
 -- The blocks that enter a level: how long they are, and what they are made of.
 use Rattle.std.proofs.Common.{◌≡◌, ℕ, zero, suc, ◌+◌, ◌-◌, ◌*◌, ◌/◌, ◌%◌, ◌^◌, ◌<◌, ◌≤◌, min, ◌≢◌, ◌⊎◌, List, [], ◌∷◌, map, length, get_or, take, drop, sym, refl, ap, ◌∙◌, subst, inl, inr, mul-suc, arith}
-use Rattle.std.specs.List.{AllByRecursion as All}
+use Rattle.std.specs.List.{AllByRecursion}
 use Rattle.std.proofs.ByRecursion.{All-take, All-drop, All-map, All-weaker, All-from_get_or}
 use Rattle.std.proofs.lemmas.List.{length-map, length-take, length-drop, drop-drop, get_or-map, get_or_past}
 use Rattle.std.proofs.lemmas.Bool.{cases_eq, cases_lt}
@@ -85,7 +85,7 @@ pub record Block (ws : List ℕ) : Type 0 where
   pub even : length ws % 2 ≡ 0
   pub short : length ws ≤ 32
 
-cut_all : (P : ℕ → Type 0) (n c : ℕ) (xs : List ℕ) → All P xs → All (λ b. All P b × (length b ≤ n)) (cut n c xs)
+cut_all : (P : ℕ → Type 0) (n c : ℕ) (xs : List ℕ) → AllByRecursion P xs → AllByRecursion (λ b. AllByRecursion P b × (length b ≤ n)) (cut n c xs)
 cut_all P n zero xs ok = tt
 cut_all P n (suc c) xs ok = ((All-take P n xs ok, let e = length-take n xs in omega arith), cut_all P n c (drop n xs) (All-drop P n xs ok))
 
@@ -107,35 +107,35 @@ bytes_block b (bytes, short) =
         let s = byte_low b bytes (4 * i + 3) in
         omega arith
 
-tags_words_lem : (ts : List ℕ) → All (λ t. t < 2 ^ 64) ts → Words (tags_words ts)
+tags_words_lem : (ts : List ℕ) → AllByRecursion (λ t. t < 2 ^ 64) ts → Words (tags_words ts)
 tags_words_lem [] ok = tt
 tags_words_lem (t ∷ ts) ok = let low : t < 2 ^ 64 = ok.0 in (omega arith, (omega arith, tags_words_lem ts ok.1))
 
-tags_block : (ts : List ℕ) → All (λ t. t < 2 ^ 64) ts × (length ts ≤ 16) → Block (tags_words ts)
+tags_block : (ts : List ℕ) → AllByRecursion (λ t. t < 2 ^ 64) ts × (length ts ≤ 16) → Block (tags_words ts)
 tags_block ts (low, short) =
     let l = length-tags_words ts in
     record { words = tags_words_lem ts low; even = omega arith; short = omega arith }
 
 -- the tags of a level fit 64 bits
-pub tags_low : (m : Meaning) (count : ℕ) → Lawful m count → (n : ℕ) (card doc : List ℕ) → All (λ t. t < 2 ^ 64) (level_tags m n card doc)
+pub tags_low : (m : Meaning) (count : ℕ) → Lawful m count → (n : ℕ) (card doc : List ℕ) → AllByRecursion (λ t. t < 2 ^ 64) (level_tags m n card doc)
 tags_low m count lawful n card doc =
-    subst (All (λ t. t < 2 ^ 64)) (sym (level_tags_lem m n card doc))
+    subst (AllByRecursion (λ t. t < 2 ^ 64)) (sym (level_tags_lem m n card doc))
     (All-map (λ t. t < 2 ^ 64) (block_tag m (drop (32 * n) card)) (entering m n card doc) (low (entering m n card doc)))
   where
-    low : (ws : List (List ℕ)) → All (λ b. block_tag m (drop (32 * n) card) b < 2 ^ 64) ws
+    low : (ws : List (List ℕ)) → AllByRecursion (λ b. block_tag m (drop (32 * n) card) b < 2 ^ 64) ws
     low [] = tt
     low (w ∷ ws) =
         let b = lawful.below (take (length w) (take 32 (drop (32 * n) card))) w in
         let h = lawful.modulus_high in
         (omega arith, low ws)
 
-pub all_blocks : (m : Meaning) (count : ℕ) → Lawful m count → (n : ℕ) (card doc : List ℕ) → Bytes doc → All Block (entering m n card doc)
+pub all_blocks : (m : Meaning) (count : ℕ) → Lawful m count → (n : ℕ) (card doc : List ℕ) → Bytes doc → AllByRecursion Block (entering m n card doc)
 unfolding first_words next_words
 all_blocks m count lawful zero card doc bytes =
     All-map Block byte_words (blocks 128 doc) (All-weaker (λ b. Bytes b × (length b ≤ 128)) (λ b. Block (byte_words b)) bytes_block (blocks 128 doc) (cut_all (λ b. b < 256) 128 (suc ((length doc - 1) / 128)) doc bytes))
 all_blocks m count lawful (suc n) card doc bytes =
     let ts = level_tags m n card doc in
-    All-map Block tags_words (blocks 16 ts) (All-weaker (λ b. All (λ t. t < 2 ^ 64) b × (length b ≤ 16)) (λ b. Block (tags_words b)) tags_block (blocks 16 ts) (cut_all (λ t. t < 2 ^ 64) 16 (suc ((length ts - 1) / 16)) ts (tags_low m count lawful n card doc)))
+    All-map Block tags_words (blocks 16 ts) (All-weaker (λ b. AllByRecursion (λ t. t < 2 ^ 64) b × (length b ≤ 16)) (λ b. Block (tags_words b)) tags_block (blocks 16 ts) (cut_all (λ t. t < 2 ^ 64) 16 (suc ((length ts - 1) / 16)) ts (tags_low m count lawful n card doc)))
 
 -- lists are the same or not, where their items are
 pub cases_lists : {X : Type 0} → ((x y : X) → (x ≡ y) ⊎ (x ≡ y → ⊥)) → (xs ys : List X) → (xs ≡ ys) ⊎ (xs ≡ ys → ⊥)

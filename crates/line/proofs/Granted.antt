@@ -6,7 +6,7 @@ use Rattle.jobs.specs.Reading.{Bytes}
 use Rattle.jobs.specs.Roots.{Job, Proper, root_tag}
 use Rattle.jobs.specs.declared.open_job.TooLong.{TooLong}
 use Rattle.std.proofs.lemmas.Bool.{leb-true}
-use Rattle.std.specs.List.{flat_map, AllByRecursion as All}
+use Rattle.std.specs.List.{flat_map, AllByRecursion}
 use Rattle.std.specs.Result.{result_map_both}
 use Rattle.books.specs.Office.{Office, taken, sealed, struck}
 use Rattle.books.specs.Runs.{Books, Event, Run}
@@ -34,7 +34,7 @@ use Rattle.line.proofs.Lines.{read_by, read_some}
 -- ---- the commands of a line fit their widths
 
 abbrev pub Fit : List Placed → Type 0
-Fit ps = All (λ p. Fitting p.order) ps
+Fit ps = AllByRecursion (λ p. Fitting p.order) ps
 
 fit_by :
     (n place byte : ℕ) (bs : List ℕ) →

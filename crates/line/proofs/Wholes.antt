@@ -4,7 +4,7 @@ use Rattle.families.specs.Meanings.{Meaning}
 use Rattle.jobs.specs.Reading.{Bytes}
 use Rattle.jobs.specs.Roots.{Job}
 use Rattle.std.proofs.lemmas.List.{drop_at, append-nil}
-use Rattle.std.specs.List.{AllByRecursion as All}
+use Rattle.std.specs.List.{AllByRecursion}
 use Rattle.line.specs.Choices.{chosen, meaning_of}
 use Rattle.line.specs.Commands.{Order, Placed, End, Reading, encoded, width, first, read_from, read_at, behind, nothing}
 use Rattle.line.specs.Commands.End.{all_read, stopped}
@@ -28,7 +28,7 @@ along ps r = record { commands = ps ++ r.commands; end = r.end }
 
 read_front :
     (os : List Order) →
-    All Fitting os →
+    AllByRecursion Fitting os →
     (place : ℕ) (more : List ℕ) →
     read_from (length (encoded_all os ++ more)) place (encoded_all os ++ more)
     ≡ along (placed_from place os) (read_from (length more) (place + length (encoded_all os)) more)

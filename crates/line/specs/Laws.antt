@@ -9,7 +9,7 @@ use Rattle.line.specs.declared.answer.Answer.{Answer}
 use Rattle.line.specs.declared.answer.Answer.TheVariants.{Refused}
 use Rattle.line.specs.declared.refusal.Refusal.TheVariants as refusal
 use Rattle.line.specs.declared.refusal.SessionFault.TheVariants as session
-use Rattle.std.specs.List.{flat_map, AllByRecursion as All}
+use Rattle.std.specs.List.{flat_map, AllByRecursion}
 
 -- operands that fit their widths
 abbrev pub Fitting : Order → Type 0
@@ -41,7 +41,7 @@ placed_from at (o ∷ os) = record { place = at; order = o } ∷ placed_from (at
 abbrev pub AllRead : Type 0
 AllRead =
     (os : List Order) →
-    All Fitting os →
+    AllByRecursion Fitting os →
     (more : List ℕ) →
     read_at (encoded_all os ++ more) 0
     ≡ record { commands = placed_from 0 os ++ (read_at (encoded_all os ++ more) (length (encoded_all os))).commands; end = (read_at (encoded_all os ++ more) (length (encoded_all os))).end }
@@ -61,4 +61,4 @@ pub record Extends (card pads front more : List ℕ) : Type 0 where
   pub only : (ending ≡ []) ⊎ (ending ≡ Refused (refusal.Session session.Job) (length front) ∷ [])
 
 abbrev pub LinesExtend : Type 0
-LinesExtend = (card pads : List ℕ) (os : List Order) → All Fitting os → (more : List ℕ) → Extends card pads (encoded_all os) more
+LinesExtend = (card pads : List ℕ) (os : List Order) → AllByRecursion Fitting os → (more : List ℕ) → Extends card pads (encoded_all os) more

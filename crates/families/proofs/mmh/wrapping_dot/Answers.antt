@@ -1,5 +1,5 @@
 use Rattle.std.proofs.Common.{◌%◌, ◌^◌, ap, ◌∙◌}
-use Rattle.families.specs.DotsLemmas.{dot_pairs}
+use Rattle.families.specs.Laws.Dots.{dot_pairs}
 use Rattle.families.proofs.mmh.wrapping_dot.Goals as goal
 
 pub returns : goal.returns

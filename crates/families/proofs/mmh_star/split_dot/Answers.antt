@@ -2,7 +2,7 @@ use Rattle.std.proofs.Common.{◌*◌, ◌^◌, ◌<◌, ap₂, arith, rules}
 use Rattle.std.proofs.lemmas.Nat.{and_mask, mul-lt}
 use Rattle.families.specs.Dots.{products}
 use Rattle.families.proofs.Chunks.{turn, ended}
-use Rattle.families.specs.DotsLemmas.{dot_pairs}
+use Rattle.families.specs.Laws.Dots.{dot_pairs}
 use Rattle.families.proofs.mmh_star.split_dot.Goals as goal
 
 pub loop-k-preserved : goal.loop-k-preserved

@@ -1,6 +1,6 @@
 use Rattle.std.proofs.Common.{◌≡◌, ◌%◌, ◌^◌, ◌*ℤ◌, ◌∙◌, ap₂, w64, SFits, of_z, rules}
 use Rattle.families.specs.Pairs.{residue}
-use Rattle.families.specs.Signs.{bits-residue}
+use Rattle.families.proofs.Signs.{bits-residue}
 use Rattle.families.proofs.nhs.signed_product.Goals as goal
 
 pub returns : goal.returns

@@ -1,7 +1,7 @@
 -- A list of distinct numbers, at most one to a class, is no longer than there are classes.
 use Rattle.std.specs.Prelude.{◌≡◌, ℕ, zero, suc, ◌<◌, ◌≤◌, ◌≢◌, ◌⊎◌, List, [], ◌∷◌, length}
 use Rattle.std.proofs.Common.{sym, ◌∙◌, inl, inr, zero-le, arith}
-use Rattle.std.specs.List.{AllByRecursion as All}
+use Rattle.std.specs.List.{AllByRecursion}
 use Rattle.std.proofs.ByRecursion.{All-weaker}
 use Rattle.std.proofs.lemmas.Bool.{cases_lt}
 use Rattle.families.specs.Counting.{Distinct, AtMost}
@@ -10,9 +10,9 @@ use Rattle.families.specs.Counting.{Distinct, AtMost}
 record Thinned (P : ℕ → Type 0) (vs : List ℕ) : Type 1 where
   part : List ℕ
   distinct : Distinct part
-  holds : All P part
+  holds : AllByRecursion P part
   long : length vs ≤ suc (length part)
-  inside : (Q : ℕ → Type 0) → All Q vs → All Q part
+  inside : (Q : ℕ → Type 0) → AllByRecursion Q vs → AllByRecursion Q part
 
 module _ (class : ℕ → ℕ) where
   -- P, in a class below n
@@ -23,14 +23,14 @@ module _ (class : ℕ → ℕ) where
   Single P = (v w : ℕ) → P v → P w → class v ≡ class w → v ≡ w
 
   -- the members beside one of class n
-  others : (P : ℕ → Type 0) (n v : ℕ) → Single P → P v → class v ≡ n → (vs : List ℕ) → All (λ w. v ≢ w) vs → All (Below P (suc n)) vs → All (Below P n) vs
+  others : (P : ℕ → Type 0) (n v : ℕ) → Single P → P v → class v ≡ n → (vs : List ℕ) → AllByRecursion (λ w. v ≢ w) vs → AllByRecursion (Below P (suc n)) vs → AllByRecursion (Below P n) vs
   others P n v one p at [] apart holds = tt
   others P n v one p at (w ∷ ws) apart holds =
       let other : class w ≢ n = λ e. apart.0 (one v w p holds.0.0 (at ∙ sym e)) in
       let low : class w < suc n = holds.0.1 in
       ((holds.0.0, omega arith), others P n v one p at ws apart.1 holds.1)
 
-  thin : (P : ℕ → Type 0) (n : ℕ) → Single P → (vs : List ℕ) → Distinct vs → All (Below P (suc n)) vs → Thinned (Below P n) vs
+  thin : (P : ℕ → Type 0) (n : ℕ) → Single P → (vs : List ℕ) → Distinct vs → AllByRecursion (Below P (suc n)) vs → Thinned (Below P n) vs
   thin P n one [] distinct holds = record { part = []; distinct = tt; holds = tt; long = zero-le; inside = λ Q h. h }
   thin P n one (v ∷ vs) distinct holds = go (cases_lt (class v) n) (thin P n one vs distinct.1 holds.1)
     where

@@ -5,14 +5,14 @@ use Rattle.std.proofs.Math.Path.{ap}
 use Rattle.std.proofs.ByRecursion.{All-weaker}
 use Rattle.std.proofs.lemmas.Bool.{cases_lt}
 use Rattle.families.specs.Counting.{AtMost}
-use Rattle.families.specs.Meanings.{Yields, Few, Lawful}
-use Rattle.families.specs.Pairs.{nh, product, paired}
-use Rattle.families.specs.Places.{difference}
-use Rattle.families.specs.Classes.{by_class}
-use Rattle.families.specs.Residues.{add_same, subtract}
-use Rattle.families.specs.Products.{level, crossed}
-use Rattle.families.specs.PlacesLemmas.{difference_differs, partner_inside}
-use Rattle.families.specs.Splits.{Pair, split}
+use Rattle.families.specs.Meanings.{Meaning, Yields, Few, Lawful}
+use Rattle.families.specs.Pairs.{pair_sum, product}
+use Rattle.families.specs.Places.{difference, partner}
+use Rattle.families.specs.Laws.Classes.{by_class}
+use Rattle.families.specs.Laws.Residues.{add_same, subtract}
+use Rattle.families.specs.Laws.Products.{level, crossed}
+use Rattle.families.specs.Laws.Places.{difference_differs, partner_inside}
+use Rattle.families.specs.Laws.Splits.{Pair, split}
 
 -- (v + s) - (v + t), each modulo 2^32, has one of two values
 same_low : (v w s t : ℕ) → (v + t) % 2 ^ 32 ≤ (v + s) % 2 ^ 32 → (w + t) % 2 ^ 32 ≤ (w + s) % 2 ^ 32 → (v + s) % 2 ^ 32 + (w + t) % 2 ^ 32 ≡ (w + s) % 2 ^ 32 + (v + t) % 2 ^ 32
@@ -35,6 +35,11 @@ pub record Reading (f : ℕ → ℕ → ℕ → ℕ → ℕ) (h c : ℕ) : Type 
 -- beside the sums p and q of the other pairs, v makes the sums differ by d
 abbrev pub Solves : (ℕ → ℕ → ℕ → ℕ → ℕ) → Pair → ℕ → ℕ → ℕ → ℕ → Type 0
 Solves f t p q d v = (v < 2 ^ 32) × ((p + f t.k t.m v t.n) % 2 ^ 64 ≡ ((q + f t.k t.m' v t.n') % 2 ^ 64 + d) % 2 ^ 64)
+
+-- The meaning that is lawful, written out. A family's own definition computes to it: one that says anything else has no
+-- law, and the check finds that at the family's impl.
+abbrev pub sums : (ℕ → ℕ → ℕ → ℕ → ℕ) → Meaning
+sums f = record { modulus = 2 ^ 64; tag = λ ks xs. pair_sum f ks xs % 2 ^ 64; pivot = λ xs ys. partner (difference xs ys) }
 
 module _ {f : ℕ → ℕ → ℕ → ℕ → ℕ} {h c : ℕ} (r : Reading f h c) where
   abbrev read : ℕ → ℕ → ℕ
@@ -130,7 +135,7 @@ module _ {f : ℕ → ℕ → ℕ → ℕ → ℕ} {h c : ℕ} (r : Reading f h 
         go v w hv hw (inr lv) (inl lw) = absurd (never v w hv hw lv lw)
 
   -- the law, from what holds of one pair
-  pub lawful : (n : ℕ) → 1 ≤ n → n ≤ 65535 → ((t : Pair) (p q d : ℕ) → AtMost n (Solves f t p q d)) → Lawful (paired f) n
+  pub lawful : (n : ℕ) → 1 ≤ n → n ≤ 65535 → ((t : Pair) (p q d : ℕ) → AtMost n (Solves f t p q d)) → Lawful (sums f) n
   unfolding Few
   lawful n low high most = record {
     modulus_low = omega arith;
@@ -142,7 +147,7 @@ module _ {f : ℕ → ℕ → ℕ → ℕ → ℕ} {h c : ℕ} (r : Reading f h 
     few = λ ks xs ys d wk wx wy sx sy ne small vs distinct yields.
         let s = split f r.comm ks xs ys wk wx wy sx.same sy.same sx.even ne in
         most s.pair s.p s.q d vs distinct
-        (All-weaker (Yields (paired f) ks xs ys d) (Solves f s.pair s.p s.q d)
+        (All-weaker (Yields (sums f) ks xs ys d) (Solves f s.pair s.p s.q d)
         (λ v hit. (hit.0, ap (λ n. n % 2 ^ 64) (sym (s.first v)) ∙ hit.1 ∙ ap (λ n. (n % 2 ^ 64 + d) % 2 ^ 64) (s.second v))) vs yields);
   }
 
@@ -152,5 +157,5 @@ plain = record {
   times = λ k x l y lk lx ll ly. ap₂ (λ a b. (a * b) % 2 ^ 64) (omega arith) (omega arith);
 }
 
-pub nh_lawful : Lawful nh 1
+pub nh_lawful : Lawful (sums product) 1
 nh_lawful = lawful plain 1 (omega arith) (omega arith) (λ t p q d. one plain t p q d refl)

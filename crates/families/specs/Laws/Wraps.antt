@@ -8,11 +8,11 @@ use Rattle.std.proofs.lemmas.Bool.{cases_lt}
 use Rattle.families.specs.Counting.{AtMost}
 use Rattle.families.specs.Dots.{mmh, mmh_reduced}
 use Rattle.families.specs.Meanings.{Lawful}
-use Rattle.families.specs.Classes.{by_class}
-use Rattle.families.specs.DotsLemmas.{Lines, Meets, dot_lawful}
-use Rattle.families.specs.PrimesLemmas.{one_word}
-use Rattle.families.specs.Residues.{add_same, cancel}
-use Rattle.families.specs.Trials.{prime}
+use Rattle.families.specs.Laws.Classes.{by_class}
+use Rattle.families.specs.Laws.Dots.{Lines, Meets, dot_lawful}
+use Rattle.families.specs.Laws.Primes.{one_word}
+use Rattle.families.specs.Laws.Residues.{add_same, cancel}
+use Rattle.families.specs.Laws.Trials.{prime}
 
 -- Tags d apart modulo 2^32 come from remainders h and g modulo the prime with h + 2^34 = g + d + 2^32 * k, where k is
 -- 2, 3, 4 or 5. Not both 2 and 5 occur for one d, so that k % 3 tells which it is.

@@ -7,7 +7,7 @@ use Rattle.families.specs.Dots.{dot, dotted, products}
 use Rattle.families.specs.Meanings.{Yields, Few, Lawful}
 use Rattle.families.specs.Pairs.{pair_sum}
 use Rattle.families.specs.Places.{difference}
-use Rattle.families.specs.PlacesLemmas.{difference_differs}
+use Rattle.families.specs.Laws.Places.{difference_differs}
 
 pub dot_pairs : (ks xs : List ℕ) → length ks ≡ length xs → length xs % 2 ≡ 0 → pair_sum products ks xs ≡ dot ks xs
 dot_pairs [] xs same even = refl

@@ -4,7 +4,7 @@ use Rattle.std.proofs.Common.{sym, ◌∙◌, ap, subst₂, inl, inr, ⊎_elim, 
 use Rattle.std.proofs.Math.Nat.{mul-mod_left, mul-add-mod_self_right, zero-mod}
 use Rattle.std.proofs.lemmas.Bool.{cases_order}
 use Rattle.families.specs.Primes.{Prime}
-use Rattle.families.specs.Residues.{cancel}
+use Rattle.families.specs.Laws.Residues.{cancel}
 
 quotient : (p x : ℕ) → x % p ≡ 0 → x / p * p ≡ x
 quotient p x e = sym (add-zero _) ∙ ap (λ r. x / p * p + r) (sym e) ∙ div-add-mod' x p

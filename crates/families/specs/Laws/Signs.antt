@@ -1,15 +1,15 @@
 -- Products of sums that are read as signed numbers.
-use Rattle.std.specs.Prelude.{◌≡◌, ℕ, zero, suc, ◌+◌, ◌-◌, ◌*◌, ◌%◌, ◌^◌, ◌<◌, ◌≤◌, ◌≢◌, ◌⊎◌, List, [], ◌∷◌, ℤ, pos, negsuc, ◌*ℤ◌, neg_ℤ, FitsSigned, slice_index, refl}
-use Rattle.std.proofs.Common.{sym, ap, subst, ◌∙◌, inl, inr, mul_comm, add_assoc, arith, lit<, lit≤, to_z, of_z}
+use Rattle.std.specs.Prelude.{◌≡◌, ℕ, zero, suc, ◌+◌, ◌-◌, ◌*◌, ◌%◌, ◌^◌, ◌<◌, ◌≤◌, ◌⊎◌, ℤ, pos, negsuc, ◌*ℤ◌, neg_ℤ, refl}
+use Rattle.std.proofs.Common.{sym, ap, subst, ◌∙◌, inl, inr, mul_comm, add_assoc, arith, lit<, to_z}
 use Rattle.std.proofs.Math.Nat.{mod-mod, mod-add-mod, add-mul-mod_self_left, mul-mod_right}
 use Rattle.std.proofs.Math.IntN.{*ℤ_comm, pos-*ℤ-negsuc, negsuc-*ℤ-pos}
 use Rattle.std.proofs.lemmas.Int.{to_z_pos, wrapping_add-bits}
 use Rattle.std.proofs.lemmas.Bool.{cases_lt, le-ltb}
-use Rattle.std.specs.Int.{int_wrap, w32, w64}
-use Rattle.families.specs.Meanings.{Words, Few, Lawful}
-use Rattle.families.specs.Pairs.{nhs, residue, signed_sum, signed_product}
-use Rattle.families.specs.Residues.{cancel}
-use Rattle.families.specs.Solutions.{Reading, lawful, two}
+use Rattle.std.specs.Int.{w32}
+use Rattle.families.specs.Meanings.{Lawful}
+use Rattle.families.specs.Pairs.{residue, signed_sum, signed_product}
+use Rattle.families.specs.Laws.Residues.{cancel}
+use Rattle.families.specs.Laws.Solutions.{Reading, sums, lawful, two}
 
 -- e is the residue of the number z of 31 bits and a sign, perhaps plus 2^64
 data Residue (e : ℕ) : ℤ → Type 0 where
@@ -81,25 +81,5 @@ signed = record {
   times = λ k x l y lk lx ll ly. product_is (sum k x lk lx) (sum l y ll ly);
 }
 
-pub nhs_lawful : Lawful nhs 2
+pub nhs_lawful : Lawful (sums signed_product) 2
 nhs_lawful = lawful signed 2 (omega arith) (omega arith) (two signed)
-
--- no lower count is lawful: under the key words 1 and v, the messages 0, 0 and 2^31, 2^31 have one tag both at
--- v = 2^31 - 1 and at v = 2^31 + 1
-pub nhs_not_one : Lawful nhs 1 → ⊥
-unfolding Few int_wrap
-nhs_not_one l =
-    let zero : List ℕ = 0 ∷ 0 ∷ [] in
-    let high : List ℕ = 2 ^ 31 ∷ 2 ^ 31 ∷ [] in
-    let words : Words high = (lit< tt, (lit< tt, tt)) in
-    let differ : zero ≢ high = λ e. let same : 0 ≡ 2 ^ 31 = ap (λ zs. slice_index zs 0) e in omega arith in
-    let most : 2 ≤ 1 =
-    l.few (1 ∷ 0 ∷ []) zero high 0 (lit< tt, (lit< tt, tt)) (lit< tt, (lit< tt, tt)) words
-    (record { same = refl; even = refl; short = lit≤ tt }) (record { same = refl; even = refl; short = lit≤ tt }) differ (lit< tt)
-    (2147483647 ∷ 2147483649 ∷ []) (((λ e. omega arith), tt), (tt, tt)) ((lit< tt, refl), ((lit< tt, refl), tt)) in
-    omega arith
-
--- the bits of a signed number of 64 bits are its residue
-pub bits-residue : (z : ℤ) → FitsSigned w64 z → of_z w64 z ≡ residue z % 2 ^ 64
-bits-residue (pos n) fits = let low : n < 2 ^ 63 = fits.sfits in omega arith
-bits-residue (negsuc n) fits = let low : n < 2 ^ 63 = fits.sfits in omega arith

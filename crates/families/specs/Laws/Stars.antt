@@ -4,11 +4,11 @@ use Rattle.std.proofs.Common.{mod-lt, arith, lit<, lit≤}
 use Rattle.families.specs.Counting.{AtMost}
 use Rattle.families.specs.Dots.{mmh_star, star_reduced}
 use Rattle.families.specs.Meanings.{Lawful}
-use Rattle.families.specs.Classes.{by_class}
-use Rattle.families.specs.DotsLemmas.{Lines, Meets, dot_lawful}
-use Rattle.families.specs.PrimesLemmas.{one_word}
-use Rattle.families.specs.Residues.{subtract}
-use Rattle.families.specs.Trials.{prime}
+use Rattle.families.specs.Laws.Classes.{by_class}
+use Rattle.families.specs.Laws.Dots.{Lines, Meets, dot_lawful}
+use Rattle.families.specs.Laws.Primes.{one_word}
+use Rattle.families.specs.Laws.Residues.{subtract}
+use Rattle.families.specs.Laws.Trials.{prime}
 
 one : (l : Lines) (d : ℕ) → AtMost 1 (Meets star_reduced 4294967311 l d)
 one l d =
