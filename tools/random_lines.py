@@ -3,7 +3,7 @@
 
 usage: tools/random_lines.py [COUNT [START]]
 
-START is the number that the random choices start from. It needs target/bin/loftline (rt check loftline). The rules are
+START is the number that the random choices start from. It needs the program that 'rt run' builds in crates/loftline. The rules are
 those of docs/RULES.md, written here a second time in another language, so that a slip in one of the two shows.
 """
 import random
@@ -231,7 +231,7 @@ def random_case(rng):
 def main():
     count = int(sys.argv[1]) if len(sys.argv) > 1 else 10000
     rng = random.Random(int(sys.argv[2]) if len(sys.argv) > 2 else 1)
-    program = Path(__file__).resolve().parent.parent / "target" / "bin" / "loftline"
+    program = Path(__file__).resolve().parent.parent / "crates" / "loftline" / "out" / "loftline"
     agree = 0
     with tempfile.TemporaryDirectory() as folder:
         for _ in range(count):
