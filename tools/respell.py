@@ -1,7 +1,7 @@
 #!/usr/bin/env python3
 """Respells this repository's own definitions and lemmas as today's toolchain spells names: words in snake case, facts and
-types in camel case, a dash where a lemma joins two names. It ran once, at the top of the repository, right after the
-toolchain's own scripts; run twice, it changes nothing more.
+types in camel case, a dash where a lemma joins two names. Run it once, at the top of the repository, right after the
+toolchain's own scripts, and never again: some names that it writes are old names of others.
 
 NAMES are the names that those scripts leave. SCRIPTED are names that they respell themselves in sources, contracts and
 proofs, but not in must-fail edits and pages, which this script brings along.

@@ -36,8 +36,8 @@ pub record Reading (f : ℕ → ℕ → ℕ → ℕ → ℕ) (h c : ℕ) : Type 
 abbrev pub Solves : (ℕ → ℕ → ℕ → ℕ → ℕ) → Pair → ℕ → ℕ → ℕ → ℕ → Type 0
 Solves f t p q d v = (v < 2 ^ 32) × ((p + f t.k t.m v t.n) % 2 ^ 64 ≡ ((q + f t.k t.m' v t.n') % 2 ^ 64 + d) % 2 ^ 64)
 
--- The meaning that is lawful, written out. A family's own definition computes to it: one that says anything else has no
--- law, and the check finds that at the family's impl.
+-- The meaning that is proved lawful, written out. The definition of a family computes to it: the check compares the two at
+-- the family's impl, and refuses a definition that says anything else.
 abbrev pub sums : (ℕ → ℕ → ℕ → ℕ → ℕ) → Meaning
 sums f = record { modulus = 2 ^ 64; tag = λ ks xs. pair_sum f ks xs % 2 ^ 64; pivot = λ xs ys. partner (difference xs ys) }
 
