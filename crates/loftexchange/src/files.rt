@@ -1,7 +1,7 @@
 // The files of the folder where the program is run.
-ghost use Rattle.std.specs.Prelude.{◌≤◌, IfOk};
+ghost use Rattle.std.specs.Prelude.{◌≤◌, IfOk, vec_len};
 
-use anyhow::anyhow;
+use anyhow::{anyhow, ensure};
 use families::Nh;
 use jobs::{ClosedJob, OpenJob, read_card};
 use pads::read_sheet;
@@ -10,41 +10,40 @@ use std::fs;
 // The label of every job of this program.
 const LABEL: u32 = 7;
 
+// The bytes of a pad, and the most pads of a book.
+const PAD: usize = 8;
+
+const MOST_PADS: usize = 256;
+
 pub fn read_card_file(rt: &HostRuntime) -> anyhow::Result<[u32; 164]> {
-    match read_card(fs::read(rt, "card.bin")?.as_slice()) {
-        Ok(card) => {
-            println!(rt; "card    164 words read from card.bin")?;
-            Ok(card)
-        }
-        Err(_) => Err(anyhow!("card.bin is not 656 bytes long")),
-    }
+    let bytes = fs::read(rt, "card.bin")?;
+    let card = read_card(bytes.as_slice()).map_err(|_| anyhow!("card.bin is not 656 bytes long"))?;
+    println!(rt; "card    164 words read from card.bin")?;
+    Ok(card)
 }
 
-// How many pads sheet.bin has, of which the places hold as many.
-pub fn read_sheet_file(rt: &HostRuntime, places: &mut [u64; 256]) -> anyhow::Result<usize>
-    ensures { IfOk result (λ count. count ≤ 256) }
+// The pads of sheet.bin.
+pub fn read_sheet_file(rt: &HostRuntime) -> anyhow::Result<Vec<u64>>
+    ensures { IfOk result (λ pads. vec_len pads ≤ 256) }
 {
-    match read_sheet(fs::read(rt, "sheet.bin")?.as_slice(), places) {
-        Ok(count) => {
-            if count > 256 {
-                return Err(anyhow!("sheet.bin has more than 256 pads"));
-            }
-            println!(rt; "sheet   {count} pads read from sheet.bin")?;
-            Ok(count)
-        }
-        Err(_) => Err(anyhow!("sheet.bin is no whole number of pads")),
-    }
+    let bytes = fs::read(rt, "sheet.bin")?;
+    let mut pads = vec![in rt.alloc(); 0u64; bytes.len() / PAD]?;
+    let count = read_sheet(bytes.as_slice(), pads.as_mut_slice()).map_err(|_| anyhow!(
+        "sheet.bin is no whole number of pads"
+    ))?;
+    ensure!(pads.len() <= MOST_PADS, "sheet.bin has more than 256 pads");
+    println!(rt; "sheet   {count} pads read from sheet.bin")?;
+    Ok(pads)
 }
 
 // The closed job of a panel file.
 pub fn close_job(rt: &HostRuntime, card: &[u32], path: &str) -> anyhow::Result<ClosedJob<Nh>> {
     let document = fs::read(rt, path)?;
-    let Ok(mut job) = OpenJob::<Nh>::open(card, LABEL) else {
-        return Err(anyhow!("the card is not 164 words long"));
-    };
-    if job.feed(document.as_slice()).is_err() {
-        return Err(anyhow!("a panel file is longer than 8388608 bytes"));
-    }
+    let mut job = OpenJob::<Nh>::open(card, LABEL).map_err(|_| anyhow!(
+        "the card is not 164 words long"
+    ))?;
+    job.feed(document.as_slice())
+        .map_err(|_| anyhow!("a panel file is longer than 8388608 bytes"))?;
     let closed = job.close();
     let length = closed.length();
     let root = closed.root_tag();

@@ -12,14 +12,13 @@ use steps::{check, list, lose, seal, strike};
 
 fn run(rt: &HostRuntime) -> anyhow::Result<()> {
     let card = read_card_file(rt)?;
-    let mut places = [0u64; 256];
-    let count = read_sheet_file(rt, &mut places)?;
-    let sheet = Sheet::new(&places[0..count]);
+    let pads = read_sheet_file(rt)?;
+    let sheet = Sheet::new(pads.as_slice());
     let port = close_job(rt, &card, "port.panel")?;
     let swapped = close_job(rt, &card, "swapped.panel")?;
-    let Ok((mut office, mut table)) = open_books(sheet, sheet) else {
-        return Err(anyhow!("the sheet does not have 1 to 256 pads"));
-    };
+    let (mut office, mut table) = open_books(sheet, sheet).map_err(|_| anyhow!(
+        "the sheet does not have 1 to 256 pads"
+    ))?;
     let (number, tag) = seal(rt, &mut office, &port, "port.panel")?;
     check(rt, &mut table, &swapped, "swapped.panel", number, tag)?;
     check(rt, &mut table, &port, "port.panel", number, tag)?;

@@ -1,5 +1,5 @@
 // What the office and the table do, a line for each step.
-use anyhow::anyhow;
+use anyhow::{anyhow, ensure};
 use books::{CheckError, OfficeBook, TableBook};
 use families::Nh;
 use jobs::ClosedJob;
@@ -11,12 +11,10 @@ pub fn seal(
     job: &ClosedJob<Nh>,
     name: &str,
 ) -> anyhow::Result<(u32, u64)> {
-    let Ok(pad) = office.take() else {
-        return Err(anyhow!("no pad to take"));
-    };
-    let Ok((number, tag)) = office.seal(pad, job) else {
-        return Err(anyhow!("the pad was refused"));
-    };
+    let pad = office.take().map_err(|_| anyhow!("no pad to take"))?;
+    let (number, tag) = office
+        .seal(pad, job)
+        .map_err(|_| anyhow!("the pad was refused"))?;
     println!(rt; "office  seals {name}: number {number}, tag {tag:#018x}")?;
     Ok((number, tag))
 }
@@ -49,40 +47,32 @@ pub fn check(
 }
 
 pub fn strike(rt: &HostRuntime, office: &mut OfficeBook<Sheet>) -> anyhow::Result<()> {
-    let Ok(pad) = office.take() else {
-        return Err(anyhow!("no pad to take"));
-    };
+    let pad = office.take().map_err(|_| anyhow!("no pad to take"))?;
     let number = pad.number();
-    if office.strike(pad).is_err() {
-        return Err(anyhow!("the pad was refused"));
-    }
+    office
+        .strike(pad)
+        .map_err(|_| anyhow!("the pad was refused"))?;
     println!(rt; "office  takes the pad of number {number} and strikes it")?;
     Ok(())
 }
 
 // A pad goes to another book, which refuses it and uses it up; the office calls its number in.
 pub fn lose(rt: &HostRuntime, office: &mut OfficeBook<Sheet>, sheet: Sheet) -> anyhow::Result<()> {
-    let Ok(mut other) = OfficeBook::open(sheet) else {
-        return Err(anyhow!("the sheet does not have 1 to 256 pads"));
-    };
-    let Ok(pad) = office.take() else {
-        return Err(anyhow!("no pad to take"));
-    };
-    if other.strike(pad).is_ok() {
-        return Err(anyhow!("another book took the pad"));
-    }
-    let Ok(number) = office.call_in() else {
-        return Err(anyhow!("no pad was out"));
-    };
+    let mut other = OfficeBook::open(sheet).map_err(|_| anyhow!(
+        "the sheet does not have 1 to 256 pads"
+    ))?;
+    let pad = office.take().map_err(|_| anyhow!("no pad to take"))?;
+    ensure!(other.strike(pad).is_err(), "another book took the pad");
+    let number = office.call_in().map_err(|_| anyhow!("no pad was out"))?;
     println!(rt; "office  its pad of number {number} went to another book; calls it in")?;
     Ok(())
 }
 
 pub fn list(rt: &HostRuntime, office: &OfficeBook<Sheet>) -> anyhow::Result<()> {
     let mut places = [0u32; 256];
-    let Ok(count) = office.list_struck(&mut places) else {
-        return Err(anyhow!("more than 256 struck numbers"));
-    };
+    let count = office
+        .list_struck(&mut places)
+        .map_err(|_| anyhow!("more than 256 struck numbers"))?;
     print!(rt; "office  struck numbers:")?;
     for number in places.iter().take(count) {
         print!(rt; " {number}")?;
