@@ -1,26 +1,14 @@
 // Why nothing was answered.
-use std::{fmt, io};
+use std::io;
+use thiserror::Error;
 
-#[derive(Clone, Copy, Drop)]
+#[derive(Debug, Drop, Error)]
 pub enum Fault {
+    #[error("cannot read card.bin in this folder")]
     NoCard,
+    #[error("cannot read sheet.bin in this folder")]
     NoSheet,
     // Standard input or output failed, or memory ran out.
-    Io,
-}
-
-impl From<io::Error> for Fault {
-    fn from(_error: io::Error) -> Fault {
-        Fault::Io
-    }
-}
-
-impl fmt::Display for Fault {
-    fn fmt<W: fmt::Write>(&self, f: &mut fmt::Formatter<W>) -> fmt::Result {
-        f.write_str(match self {
-            Fault::NoCard => "cannot read card.bin in this folder",
-            Fault::NoSheet => "cannot read sheet.bin in this folder",
-            Fault::Io => "cannot read standard input or write standard output",
-        })
-    }
+    #[error("cannot read standard input or write standard output")]
+    Io(#[from] io::Error),
 }

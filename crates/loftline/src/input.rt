@@ -1,5 +1,4 @@
 // The card, the sheet and the line.
-use crate::fault::Fault;
 use std::alloc::Global;
 use std::io::Read;
 use std::{fs, io};
@@ -14,13 +13,7 @@ pub fn read_part<R: Read + Drop>(input: R, heap: Global) -> io::Result<Vec<u8>> 
     Ok(bytes)
 }
 
-// The first bytes of a file, or the fault that stands for its absence.
-pub fn read_file(rt: &HostRuntime, name: &str, missing: Fault) -> Result<Vec<u8>, Fault> {
-    let Ok(file) = fs::open(rt, name) else {
-        return Err(missing);
-    };
-    match read_part(file, rt.alloc()) {
-        Ok(bytes) => Ok(bytes),
-        Err(_) => Err(missing),
-    }
+// The first bytes of a file.
+pub fn read_file(rt: &HostRuntime, name: &str) -> io::Result<Vec<u8>> {
+    read_part(fs::open(rt, name)?, rt.alloc())
 }

@@ -15,8 +15,8 @@ use std::process::ExitCode;
 const ROOM: usize = 53_248;
 
 fn run(rt: &HostRuntime) -> Result<(), Fault> {
-    let card = read_file(rt, "card.bin", Fault::NoCard)?;
-    let sheet = read_file(rt, "sheet.bin", Fault::NoSheet)?;
+    let card = read_file(rt, "card.bin").map_err(|_| Fault::NoCard)?;
+    let sheet = read_file(rt, "sheet.bin").map_err(|_| Fault::NoSheet)?;
     let line = read_part(rt.stdin(), rt.alloc())?;
     let mut answers = [0u8; ROOM];
     let result = run_line(
@@ -37,11 +37,9 @@ fn run(rt: &HostRuntime) -> Result<(), Fault> {
 }
 
 fn main(rt: HostRuntime) -> ExitCode {
-    match run(&rt) {
-        Ok(()) => ExitCode::SUCCESS,
-        Err(fault) => {
-            let _ = eprintln!(rt; "loftline: {fault}");
-            ExitCode::FAILURE
-        }
+    if let Err(fault) = run(&rt) {
+        let _ = eprintln!(rt; "loftline: {fault}");
+        return ExitCode::FAILURE;
     }
+    ExitCode::SUCCESS
 }

@@ -7,16 +7,14 @@ use crate::fault::Fault;
 use crate::order::FamilyName;
 use families::Family;
 use jobs::{ClosedJob, OpenJob, read_card};
-use std::fs;
 use std::io::Read;
+use std::{fs, io};
 
 // The most bytes that are asked for at a time.
 const PIECE: usize = 65536;
 
 pub fn read_card_file(rt: &HostRuntime) -> Result<[u32; 164], Fault> {
-    let Ok(bytes) = fs::read(rt, "card.bin") else {
-        return Err(Fault::NoCard);
-    };
+    let bytes = fs::read(rt, "card.bin").map_err(|_| Fault::NoCard)?;
     Ok(read_card(bytes.as_slice())?)
 }
 
@@ -33,7 +31,7 @@ fn feed_input<F: Family>(rt: &HostRuntime, job: &mut OpenJob<F>) -> Result<(), F
         }
         job.feed(&piece[0..n])?;
     }
-    Err(Fault::Io)
+    Err(Fault::Io(io::ErrorKind::Other.into()))
 }
 
 // Opens a job, feeds it what standard input has, and closes it, with a line for each step: the closed job is that

@@ -31,11 +31,9 @@ fn run(rt: &HostRuntime) -> Result<(), Fault> {
 }
 
 fn main(rt: HostRuntime) -> ExitCode {
-    match run(&rt) {
-        Ok(()) => ExitCode::SUCCESS,
-        Err(fault) => {
-            let _ = eprintln!(rt; "loftmark: {fault}");
-            ExitCode::FAILURE
-        }
+    if let Err(fault) = run(&rt) {
+        let _ = eprintln!(rt; "loftmark: {fault}");
+        return ExitCode::FAILURE;
     }
+    ExitCode::SUCCESS
 }

@@ -38,10 +38,7 @@ fn family_named(text: &str) -> Result<FamilyName, Fault>
 }
 
 fn label_of(text: &str) -> Result<u32, Fault> {
-    match text.parse::<u32>() {
-        Ok(label) => Ok(label),
-        Err(_) => Err(Fault::BadLabel),
-    }
+    text.parse().map_err(|_| Fault::BadLabel)
 }
 
 // The family and the label that the command line names.
