@@ -8,8 +8,8 @@ mod tests {
     // A card of ones, as bytes.
     fn ones() -> [u8; 656] {
         let mut card = [0; 656];
-        for word in 0..164 {
-            card[4 * word] = 1;
+        for low in card.iter_mut().step_by(4) {
+            *low = 1;
         }
         card
     }

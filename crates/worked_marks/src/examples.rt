@@ -1,5 +1,6 @@
 // Worked examples that no contract states: root tags of MMH*, the limits, and a whole line.
 use crate::pieces::{Feeding, root_tag};
+use crate::tally::Tally;
 use anyhow::anyhow;
 use families::MmhStar;
 use jobs::read_card;
@@ -27,10 +28,8 @@ const ANSWERS: [u8; 30] = [
 // Whether a line over the two pads gives these answers.
 fn answers(card: &[u8], line: &[u8], expected: &[u8]) -> bool {
     let mut buffer = [0u8; ROOM];
-    match run_line(card, &SHEET, line, &mut buffer) {
-        Ok(count) => &buffer[0..count] == expected,
-        Err(_) => false,
-    }
+    let result = run_line(card, &SHEET, line, &mut buffer);
+    result.is_ok_and(|count| &buffer[0..count] == expected)
 }
 
 // The result of a line of so many bytes, each of which seals, over so many zero pads.
@@ -59,14 +58,11 @@ fn star_tag(words: &[u32; 164], label: u32, document: &[u8], tag: u64) -> bool {
 }
 
 fn show(rt: &HostRuntime, title: &str, examples: &[bool]) -> anyhow::Result<()> {
-    let all = examples.len();
-    let mut agree = 0usize;
-    for example in examples {
-        if *example {
-            agree = agree.saturating_add(1);
-        }
+    let mut tally = Tally::default();
+    for agrees in examples {
+        tally.add(*agrees);
     }
-    println!(rt; "{title}: {agree} of {all} agree")?;
+    println!(rt; "{title}: {tally}")?;
     Ok(())
 }
 
@@ -97,9 +93,9 @@ fn limits(rt: &HostRuntime, card: &[u8]) -> anyhow::Result<[bool; 8]> {
 // Prints how many agree of each group.
 pub fn compare_examples(rt: &HostRuntime) -> anyhow::Result<()> {
     let card = fs::read(rt, "card-ones.bin")?;
-    let Ok(words) = read_card(card.as_slice()) else {
-        return Err(anyhow!("card-ones.bin is not 656 bytes long"));
-    };
+    let words = read_card(card.as_slice()).map_err(|_| anyhow!(
+        "card-ones.bin is not 656 bytes long"
+    ))?;
     let tags = [
         star_tag(&words, 0, &[], 0),
         star_tag(&words, 7, &[], 7),

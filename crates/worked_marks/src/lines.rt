@@ -1,4 +1,5 @@
 // Whole runs of the line, from lines.tsv.
+use crate::tally::Tally;
 use anyhow::anyhow;
 use line::{Answer, run_line};
 use std::alloc::{AllocError, Global};
@@ -7,27 +8,12 @@ use std::fs;
 // Room for the answers of the longest line.
 const ROOM: usize = 53_248;
 
-fn digit(byte: u8) -> Option<u8> {
-    match byte {
-        b'0'..=b'9' => Some(byte - b'0'),
-        b'a'..=b'f' => Some(byte - b'a' + 10),
-        _ => None,
-    }
-}
-
 // The bytes that a column spells: two digits for each, or a dash for none.
 fn column(heap: Global, text: &str) -> anyhow::Result<Vec<u8>> {
-    let mut bytes = Vec::new(heap);
     if text == "-" {
-        return Ok(bytes);
+        return Ok(Vec::new(heap));
     }
-    for pair in text.as_bytes().chunks_exact(2) {
-        let (Some(high), Some(low)) = (digit(pair[0]), digit(pair[1])) else {
-            return Err(anyhow!("lines.tsv has a digit that is not hexadecimal"));
-        };
-        bytes.push(high.wrapping_mul(16).wrapping_add(low))?;
-    }
-    Ok(bytes)
+    hex::decode(heap, text).map_err(|_| anyhow!("lines.tsv has a column that is not hexadecimal"))
 }
 
 // What the program loftline writes for these contents of its files.
@@ -63,14 +49,10 @@ fn agrees(heap: Global, row: &str) -> anyhow::Result<bool> {
 // Prints how many rows agree.
 pub fn compare_lines(rt: &HostRuntime) -> anyhow::Result<()> {
     let text = fs::read_to_string(rt, "lines.tsv")?;
-    let mut agree = 0usize;
-    let mut all = 0usize;
+    let mut tally = Tally::default();
     for row in text.as_str().lines().skip(1) {
-        all = all.saturating_add(1);
-        if agrees(rt.alloc(), row)? {
-            agree = agree.saturating_add(1);
-        }
+        tally.add(agrees(rt.alloc(), row)?);
     }
-    println!(rt; "lines: {agree} of {all} agree")?;
+    println!(rt; "lines: {tally}")?;
     Ok(())
 }

@@ -5,14 +5,16 @@
 mod examples;
 mod lines;
 mod pieces;
+mod tally;
 mod vectors;
 
-use anyhow::anyhow;
+use anyhow::Context;
 use examples::compare_examples;
 use families::{Family, Mmh, MmhStar, Nh, Nhs};
 use lines::compare_lines;
 use pieces::{Feeding, root_tag};
 use std::fs;
+use tally::Tally;
 use vectors::{Vector, read_vector};
 
 // The lengths of the pieces; the uneven ones straddle 128, 2,048 and 32,768 bytes.
@@ -37,20 +39,14 @@ fn count<F: Family>(
     feeding: Feeding,
     title: &str,
 ) -> anyhow::Result<()> {
-    let mut agree = 0usize;
-    let mut all = 0usize;
+    let mut tally = Tally::default();
     for line in text.lines().skip(1) {
-        let Some(vector) = read_vector(line, column) else {
-            return Err(anyhow!("marks.tsv has a line that is no vector"));
-        };
+        let vector = read_vector(line, column).context("marks.tsv has a line that is no vector")?;
         if vector.suits(feeding) {
-            all = all.saturating_add(1);
-            if agrees::<F>(rt, &vector, feeding)? {
-                agree = agree.saturating_add(1);
-            }
+            tally.add(agrees::<F>(rt, &vector, feeding)?);
         }
     }
-    println!(rt; "{title}: {agree} of {all} agree")?;
+    println!(rt; "{title}: {tally}")?;
     Ok(())
 }
 

@@ -15,32 +15,25 @@ pub enum Feeding<'a> {
     PastLimit,
 }
 
-// The length of the next piece: one of `sizes` in turn, within what is left.
-fn next_size(sizes: &[usize], turn: usize, left: usize) -> usize
+// The length of the next piece: the size whose turn it is, or all, within what is left.
+fn next_size(turn: Option<&usize>, left: usize) -> usize
     requires { 0 < left }
-    ensures { (0 < result) × (result ≤ left) }
+    ensures some { 0 < result }
+    ensures within { result ≤ left }
 {
-    if sizes.is_empty() {
-        return left;
-    }
-    sizes[turn % sizes.len()].max(1).min(left)
+    turn.map_or(left, |size| (*size).max(1).min(left))
 }
 
 fn in_pieces<F: Family>(card: &[u32], label: u32, document: &[u8], sizes: &[usize]) -> Option<u64>
     ensures { IfSome result (λ tag. tag ≡ root_tag F.meaning card.now (fed (fresh label) document.now)) }
 {
-    let Ok(mut job) = OpenJob::<F>::open(card, label) else {
-        return None;
-    };
-    let mut at = 0;
-    let mut turn = 0usize;
-    while at < document.len() {
-        let n = next_size(sizes, turn, document.len() - at);
-        let Ok(()) = job.feed(&document[at..at + n]) else {
-            return None;
-        };
-        at += n;
-        turn = turn.wrapping_add(1);
+    let mut job = OpenJob::<F>::open(card, label).ok()?;
+    let mut rest = document;
+    let mut turns = sizes.iter().cycle();
+    while !rest.is_empty() {
+        let (piece, more) = rest.split_at(next_size(turns.next(), rest.len()));
+        job.feed(piece).ok()?;
+        rest = more;
     }
     Some(job.close().root_tag())
 }
@@ -48,16 +41,12 @@ fn in_pieces<F: Family>(card: &[u32], label: u32, document: &[u8], sizes: &[usiz
 fn past_limit<F: Family>(card: &[u32], label: u32, document: &[u8]) -> Option<u64>
     ensures { IfSome result (λ tag. tag ≡ root_tag F.meaning card.now (fed (fresh label) document.now)) }
 {
-    let Ok(mut job) = OpenJob::<F>::open(card, label) else {
+    let mut job = OpenJob::<F>::open(card, label).ok()?;
+    job.feed(document).ok()?;
+    if job.feed(&[0]).is_ok() {
         return None;
-    };
-    let Ok(()) = job.feed(document) else {
-        return None;
-    };
-    match job.feed(&[0]) {
-        Ok(()) => None,
-        Err(_) => Some(job.close().root_tag()),
     }
+    Some(job.close().root_tag())
 }
 
 // The root tag of the document, however it is fed.

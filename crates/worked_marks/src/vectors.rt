@@ -56,24 +56,21 @@ impl Vector<'_> {
     pub fn card(&self, rt: &HostRuntime) -> anyhow::Result<[u32; 164]> {
         let name = self.name;
         let path = format!(in rt.alloc(); "card-{name}.bin")?;
-        match read_card(fs::read(rt, path.as_str())?.as_slice()) {
-            Ok(card) => Ok(card),
-            Err(_) => Err(anyhow!("a card is not 656 bytes long")),
-        }
+        let bytes = fs::read(rt, path.as_str())?;
+        read_card(bytes.as_slice()).map_err(|_| anyhow!("a card is not 656 bytes long"))
     }
 
     // Byte i is (step × i + i / 256 + start) mod 256.
     pub fn document(&self, heap: Global) -> Result<Vec<u8>, AllocError> {
         let mut bytes = vec![in heap; 0u8; self.length]?;
-        let mut i = 0u64;
-        for byte in bytes.iter_mut() {
+        for (place, byte) in bytes.iter_mut().enumerate() {
+            let i = place as u64;
             let sum = self
                 .step
                 .wrapping_mul(i)
                 .wrapping_add(i / 256)
                 .wrapping_add(self.start);
             *byte = (sum & 0xff) as u8;
-            i = i.wrapping_add(1);
         }
         Ok(bytes)
     }
