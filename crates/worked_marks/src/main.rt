@@ -15,7 +15,7 @@ use lines::compare_lines;
 use pieces::{Feeding, root_tag};
 use std::fs;
 use tally::Tally;
-use vectors::{Vector, read_vector};
+use vectors::{Vector, Vectors};
 
 // The lengths of the pieces; the uneven ones straddle 128, 2,048 and 32,768 bytes.
 const WHOLE: [usize; 1] = [8_388_608];
@@ -31,56 +31,47 @@ fn agrees<F: Family>(rt: &HostRuntime, vector: &Vector, feeding: Feeding) -> any
     Ok(tag == Some(vector.tag))
 }
 
-// Prints how many vectors that can be fed so have this family's tag in their column.
+// Prints how many vectors that can be fed so have this family's tag.
 fn count<F: Family>(
     rt: &HostRuntime,
-    text: &str,
-    column: usize,
+    vectors: Vectors,
     feeding: Feeding,
     title: &str,
 ) -> anyhow::Result<()> {
     let mut tally = Tally::default();
-    for line in text.lines().skip(1) {
-        let vector = read_vector(line, column).context("marks.tsv has a line that is no vector")?;
+    for line in vectors.lines() {
+        let vector = vectors
+            .read(line)
+            .context("marks.tsv has a line that is no vector")?;
         if vector.suits(feeding) {
             tally.add(agrees::<F>(rt, &vector, feeding)?);
         }
     }
-    println!(rt; "{title}: {tally}")?;
+    println!(rt; "  {title}: {tally}")?;
     Ok(())
 }
 
-fn compare<F: Family>(
-    rt: &HostRuntime,
-    text: &str,
-    column: usize,
-    name: &str,
-) -> anyhow::Result<()> {
+fn compare<F: Family>(rt: &HostRuntime, text: &str, name: &str) -> anyhow::Result<()> {
+    let vectors = Vectors::of(text, name).context("marks.tsv lacks a family")?;
     println!(rt; "{name}")?;
-    count::<F>(rt, text, column, Feeding::Pieces(&WHOLE), "  fed whole")?;
-    count::<F>(rt, text, column, Feeding::Pieces(&BYTES), "  byte by byte")?;
-    count::<F>(
-        rt,
-        text,
-        column,
-        Feeding::Pieces(&UNEVEN),
-        "  in uneven pieces",
-    )?;
-    count::<F>(
-        rt,
-        text,
-        column,
-        Feeding::PastLimit,
-        "  a byte past the limit refused",
-    )
+    let feedings = [
+        ("fed whole", Feeding::Pieces(&WHOLE)),
+        ("byte by byte", Feeding::Pieces(&BYTES)),
+        ("in uneven pieces", Feeding::Pieces(&UNEVEN)),
+        ("a byte past the limit refused", Feeding::PastLimit),
+    ];
+    for (title, feeding) in feedings {
+        count::<F>(rt, vectors, feeding, title)?;
+    }
+    Ok(())
 }
 
 fn run(rt: &HostRuntime) -> anyhow::Result<()> {
     let marks = fs::read_to_string(rt, "marks.tsv")?;
-    compare::<Nh>(rt, marks.as_str(), 0, "NH")?;
-    compare::<Nhs>(rt, marks.as_str(), 1, "NHS")?;
-    compare::<MmhStar>(rt, marks.as_str(), 2, "MMH*")?;
-    compare::<Mmh>(rt, marks.as_str(), 3, "MMH")?;
+    compare::<Nh>(rt, marks.as_str(), "NH")?;
+    compare::<Nhs>(rt, marks.as_str(), "NHS")?;
+    compare::<MmhStar>(rt, marks.as_str(), "MMH*")?;
+    compare::<Mmh>(rt, marks.as_str(), "MMH")?;
     compare_lines(rt)?;
     compare_examples(rt)
 }

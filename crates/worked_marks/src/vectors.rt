@@ -4,11 +4,10 @@ use anyhow::anyhow;
 use jobs::read_card;
 use std::alloc::{AllocError, Global};
 use std::fs;
+use std::iter::Skip;
+use std::str::Lines;
 
 const LONGEST: usize = 8_388_608;
-
-// The columns before the families'.
-const BEFORE: usize = 5;
 
 // A card by its name, a label, a document by its rule, and the root tag that it should have.
 #[derive(Drop)]
@@ -21,27 +20,42 @@ pub struct Vector<'a> {
     pub tag: u64,
 }
 
-// The vector of a line, with the tag of one family's column.
-pub fn read_vector(line: &str, column: usize) -> Option<Vector<'_>> {
-    let mut words = line.split('\t');
-    let name = words.next()?;
-    let label = words.next()?.parse::<u32>().ok()?;
-    let length = words.next()?.parse::<usize>().ok()?;
-    let step = words.next()?.parse::<u64>().ok()?;
-    let start = words.next()?.parse::<u64>().ok()?;
-    let tag = line
-        .split('\t')
-        .nth(BEFORE.saturating_add(column))?
-        .parse::<u64>()
-        .ok()?;
-    Some(Vector {
-        name,
-        label,
-        length,
-        step,
-        start,
-        tag,
-    })
+// The vectors of one family: marks.tsv, and the column that has the family's tags.
+#[derive(Clone, Copy)]
+pub struct Vectors<'a> {
+    text: &'a str,
+    column: usize,
+}
+
+impl<'a> Vectors<'a> {
+    // The column is found by the family's name in the first line.
+    pub fn of(text: &'a str, name: &str) -> Option<Vectors<'a>> {
+        let titles = text.lines().next()?;
+        let column = titles.split('\t').position(|title| title == name)?;
+        Some(Vectors { text, column })
+    }
+
+    pub fn lines(&self) -> Skip<Lines<'a>> {
+        self.text.lines().skip(1)
+    }
+
+    pub fn read<'b>(&self, line: &'b str) -> Option<Vector<'b>> {
+        let mut words = line.split('\t');
+        let name = words.next()?;
+        let label = words.next()?.parse().ok()?;
+        let length = words.next()?.parse().ok()?;
+        let step = words.next()?.parse().ok()?;
+        let start = words.next()?.parse().ok()?;
+        let tag = line.split('\t').nth(self.column)?.parse().ok()?;
+        Some(Vector {
+            name,
+            label,
+            length,
+            step,
+            start,
+            tag,
+        })
+    }
 }
 
 impl Vector<'_> {
