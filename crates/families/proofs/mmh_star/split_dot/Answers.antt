@@ -26,5 +26,5 @@ returns c =
     let inv = c.loop-k.invariant in
     let steps = c.in-None.ensures.steps in
     let none = ended products c.loop-k.k-iterator inv.in_pairs steps in
-    let all = dot_pairs c.args.keys.now c.args.words.now (search rules) (search rules) in
+    let all = dot_pairs c.args.keyed.now.keys.now c.args.keyed.now.words.now (search rules) (search rules) in
     record { value = omega arith; small = omega arith }

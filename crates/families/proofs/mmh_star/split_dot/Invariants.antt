@@ -12,5 +12,5 @@ invariant-loop-k l =
       in_pairs : InPairs i;
       low : l.low + length (words_left i) * 2 ^ 16 ≤ 2 ^ 21;
       high : l.high + length (words_left i) * 2 ^ 48 ≤ 2 ^ 53;
-      sum : l.low + 2 ^ 16 * l.high + pair_sum products (keys_left i) (words_left i) ≡ pair_sum products l.keys l.words;
+      sum : l.low + 2 ^ 16 * l.high + pair_sum products (keys_left i) (words_left i) ≡ pair_sum products l.keyed.keys.now l.keyed.words.now;
     }
