@@ -10,21 +10,23 @@ use crate::width::Keyed;
 #[derive(Clone, Copy, PartialEq, Eq, Debug)]
 pub struct MmhStar;
 
-// The exact sum of at most 32 products, as low + 2^16 × high: the low 16 bits of each product are summed apart from
-// the rest, so that neither sum overflows.
-fn split_dot(keyed: &Keyed<'_>) -> (u64, u64)
-    ensures value { result.0 + 2 ^ 16 * result.1 ≡ dot keyed.now.keys.now keyed.now.words.now }
-    ensures small { result.0 ≤ 2 ^ 21 }
-{
-    let mut low: u64 = 0;
-    let mut high: u64 = 0;
-    for (k, w) in keyed.keys.chunks_exact(2).zip(keyed.words.chunks_exact(2)) {
-        let first = u64::from(k[0]) * u64::from(w[0]);
-        let second = u64::from(k[1]) * u64::from(w[1]);
-        low += (first & 0xffff) + (second & 0xffff);
-        high += (first >> 16) + (second >> 16);
+impl Keyed<'_> {
+    // The exact sum of at most 32 products, as low + 2^16 × high: the low 16 bits of each product are summed apart
+    // from the rest, so that neither sum overflows.
+    fn split_dot(&self) -> (u64, u64)
+        ensures value { result.0 + 2 ^ 16 * result.1 ≡ dot self.now.keys.now self.now.words.now }
+        ensures small { result.0 ≤ 2 ^ 21 }
+    {
+        let mut low: u64 = 0;
+        let mut high: u64 = 0;
+        for (k, w) in self.keys.chunks_exact(2).zip(self.words.chunks_exact(2)) {
+            let first = u64::from(k[0]) * u64::from(w[0]);
+            let second = u64::from(k[1]) * u64::from(w[1]);
+            low += (first & 0xffff) + (second & 0xffff);
+            high += (first >> 16) + (second >> 16);
+        }
+        (low, high)
     }
-    (low, high)
 }
 
 impl Family for MmhStar {
@@ -43,7 +45,7 @@ impl Family for MmhStar {
     ghost lawful = { star_lawful };
 
     fn keyed_tag(keyed: &Keyed<'_>) -> u64 {
-        let (low, high) = split_dot(keyed);
+        let (low, high) = keyed.split_dot();
         (low + ((high % PRIME) << 16)) % PRIME
     }
 }

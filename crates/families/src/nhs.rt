@@ -12,6 +12,7 @@ use crate::width::Keyed;
 pub struct Nhs;
 
 // Two words read as signed, and their sum, which wraps.
+#[tactic(auto, using(std::proofs::lemmas::Int::wraps))]
 fn signed_sum(k: u32, m: u32) -> i32
     ensures { result ≡ signed_sum k m }
 {

@@ -3,7 +3,7 @@ use Rattle.std.proofs.lemmas.Nat.{and_mask, mul-lt}
 use Rattle.families.specs.Dots.{products}
 use Rattle.families.proofs.Chunks.{turn, ended}
 use Rattle.families.specs.Laws.Dots.{dot_pairs}
-use Rattle.families.proofs.mmh_star.split_dot.Goals as goal
+use Rattle.families.proofs.width.Keyed.split_dot.Goals as goal
 
 pub loop-k-preserved : goal.loop-k-preserved
 loop-k-preserved c =
@@ -26,5 +26,5 @@ returns c =
     let inv = c.loop-k.invariant in
     let steps = c.in-None.ensures.steps in
     let none = ended products c.loop-k.k-iterator inv.in_pairs steps in
-    let all = dot_pairs c.args.keyed.now.keys.now c.args.keyed.now.words.now (search rules) (search rules) in
+    let all = dot_pairs c.args.self.now.keys.now c.args.self.now.words.now (search rules) (search rules) in
     record { value = omega arith; small = omega arith }
