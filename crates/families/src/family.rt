@@ -10,17 +10,17 @@ pub trait Family {
     // The modulus, the tag function and the pivot.
     ghost meaning: { Meaning };
 
-    ghost COUNT: { ℕ };
-
-    ghost MODULUS: { ℕ };
-
     // How many values of the key word at the pivot can make two messages' tags differ by one given number, at most.
     const COUNT: u32;
 
-    // Every tag is below it.
+    ghost COUNT: { ℕ };
+
+    // The modulus, which every tag is below: at most 2^64.
     const MODULUS: u128;
 
-    // The tag of words that a family takes.
+    ghost MODULUS: { ℕ };
+
+    // The tag of words whose lengths were checked.
     fn keyed_tag(keyed: &Keyed<'_>) -> u64
         ensures { result ≡ meaning.tag keyed.now.keys.now keyed.now.words.now };
 
@@ -48,7 +48,7 @@ pub trait Family {
         u128::from(number) < Self::MODULUS
     }
 
-    // The constant `COUNT`.
+    // `COUNT`, as a call.
     fn colliding_values() -> u32
         ensures { result ≡ COUNT }
     {

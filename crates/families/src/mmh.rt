@@ -25,13 +25,13 @@ impl Pairing for Mmh {
 impl Family for Mmh {
     ghost meaning = { mmh };
 
-    ghost COUNT = { 6 };
-
-    ghost MODULUS = { 2 ^ 32 };
-
     const COUNT: u32 = 6;
 
+    ghost COUNT = { 6 };
+
     const MODULUS: u128 = TAGS as u128;
+
+    ghost MODULUS = { 2 ^ 32 };
 
     ghost modulus_is = { refl };
 

@@ -32,13 +32,13 @@ impl Keyed<'_> {
 impl Family for MmhStar {
     ghost meaning = { mmh_star };
 
-    ghost COUNT = { 1 };
-
-    ghost MODULUS = { 4294967311 };
-
     const COUNT: u32 = 1;
 
+    ghost COUNT = { 1 };
+
     const MODULUS: u128 = PRIME as u128;
+
+    ghost MODULUS = { 4294967311 };
 
     ghost modulus_is = { refl };
 

@@ -23,13 +23,13 @@ impl Pairing for Nh {
 impl Family for Nh {
     ghost meaning = { nh };
 
-    ghost COUNT = { 1 };
-
-    ghost MODULUS = { 2 ^ 64 };
-
     const COUNT: u32 = 1;
 
+    ghost COUNT = { 1 };
+
     const MODULUS: u128 = 1 << 64;
+
+    ghost MODULUS = { 2 ^ 64 };
 
     ghost modulus_is = { refl };
 

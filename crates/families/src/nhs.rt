@@ -38,13 +38,13 @@ impl Pairing for Nhs {
 impl Family for Nhs {
     ghost meaning = { nhs };
 
-    ghost COUNT = { 2 };
-
-    ghost MODULUS = { 2 ^ 64 };
-
     const COUNT: u32 = 2;
 
+    ghost COUNT = { 2 };
+
     const MODULUS: u128 = 1 << 64;
+
+    ghost MODULUS = { 2 ^ 64 };
 
     ghost modulus_is = { refl };
 

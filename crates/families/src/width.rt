@@ -22,7 +22,7 @@ pub struct Keyed<'a> {
 
 impl<'a> Keyed<'a> {
     // Refused where the lengths are none that a family takes.
-    pub fn new(keys: &'a [u32], words: &'a [u32]) -> Result<Keyed<'a>, WidthError>
+    pub fn new(keys: &'a [u32], words: &'a [u32]) -> Result<Self, WidthError>
         ensures answer { result_map_both (λ k. tt) (λ e. e) result ≡ checked (length keys.now) (length words.now) }
         ensures keys { IfOk result (λ k. k.keys.now ≡ keys.now) }
         ensures words { IfOk result (λ k. k.words.now ≡ words.now) }

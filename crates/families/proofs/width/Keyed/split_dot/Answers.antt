@@ -21,10 +21,9 @@ loop-k-preserved c =
     let two_bits = and_mask two 16 in
     record { in_pairs = t.in_pairs; low = omega arith; high = omega arith; sum = omega arith }
 
-pub returns : goal.returns
-returns c =
-    let inv = c.loop-k.invariant in
-    let steps = c.in-None.ensures.steps in
-    let none = ended products c.loop-k.k-iterator inv.in_pairs steps in
-    let all = dot_pairs c.args.self.now.keys.now c.args.self.now.words.now (search rules) (search rules) in
-    record { value = omega arith; small = omega arith }
+pub returns-clause-value : goal.returns-clause-value
+returns-clause-value c =
+    let none = ended products c.loop-k.k-iterator c.loop-k.invariant.in_pairs c.in-None.ensures.steps in
+    let keyed = c.args.self.now in
+    let all = dot_pairs keyed.keys.now keyed.words.now keyed.same keyed.even in
+    omega arith
