@@ -20,7 +20,7 @@ pub fn transfer<F: Family>(
     tag: u64,
 ) -> Result<(u32, u64), Refusal>
     ensures answer { result ≡ answered F.meaning.modulus sent.now.root received.now.root tag sheet.entry.pads.now }
-    ensures collision { IfOk result (λ seal. (card : List ℕ) (accepted sealed : Job) → Closed F.meaning card accepted received.now → Closed F.meaning card sealed sent.now → accepted ≢ sealed → Forged F.meaning F.count card accepted sealed tag seal.1) }
+    ensures collision { IfOk result (λ seal. (card : List ℕ) (accepted sealed : Job) → Closed F.meaning card accepted received.now → Closed F.meaning card sealed sent.now → accepted ≢ sealed → Forged F.meaning F.COUNT card accepted sealed tag seal.1) }
 {
     let (mut office, mut table) = open_books(sheet, sheet)?;
     let pad = office.take()?;

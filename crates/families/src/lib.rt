@@ -17,4 +17,4 @@ pub use mmh_star::MmhStar;
 pub use nh::Nh;
 pub use nhs::Nhs;
 pub use prime::prime_modulus;
-pub use width::WidthError;
+pub use width::{Keyed, WidthError};

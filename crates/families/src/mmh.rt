@@ -1,13 +1,14 @@
 // MMH: the sum of the products of key and message words modulo 2^64, reduced once by the prime 2^32 + 15, then by 2^32.
-ghost use Rattle.std.specs.Prelude.{◌≡◌, ◌%◌, ◌^◌, length};
-ghost use Rattle.families.specs.Dots.{dot, mmh, products};
+ghost use Rattle.std.specs.Prelude.{◌^◌, refl};
+ghost use Rattle.families.specs.Dots.{mmh, products};
 ghost use Rattle.families.specs.Laws.Wraps.{mmh_lawful};
 
 use crate::family::Family;
-use crate::pairs::{Pairing, pair_sum};
+use crate::pairs::Pairing;
 use crate::prime::PRIME;
-use crate::width::{WidthError, check_width};
+use crate::width::Keyed;
 
+#[derive(Clone, Copy, PartialEq, Eq, Debug)]
 pub struct Mmh;
 
 // How many tags there are.
@@ -21,37 +22,22 @@ impl Pairing for Mmh {
     }
 }
 
-// The sum of the products modulo 2^64, at lengths that were checked.
-fn wrapping_dot(keys: &[u32], words: &[u32]) -> u64
-    requires { (length keys.now ≡ length words.now) × (length words.now % 2 ≡ 0) }
-    ensures { result ≡ dot keys.now words.now % 2 ^ 64 }
-{
-    pair_sum::<Mmh>(keys, words)
-}
-
 impl Family for Mmh {
     ghost meaning = { mmh };
 
-    ghost count = { 6 };
-
     const COUNT: u32 = 6;
+
+    ghost COUNT = { 6 };
+
+    const MODULUS: u128 = TAGS as u128;
+
+    ghost MODULUS = { 2 ^ 32 };
+
+    ghost modulus_is = { refl };
 
     ghost lawful = { mmh_lawful };
 
-    fn colliding_values() -> u32 {
-        Self::COUNT
-    }
-
-    fn tag(keys: &[u32], words: &[u32]) -> Result<u64, WidthError> {
-        check_width(keys.len(), words.len())?;
-        Ok(wrapping_dot(keys, words) % PRIME % TAGS)
-    }
-
-    fn add_pad(tag: u64, pad: u64) -> u64 {
-        tag.wrapping_add(pad) % TAGS
-    }
-
-    fn is_tag(number: u64) -> bool {
-        number < TAGS
+    fn keyed_tag(keyed: &Keyed<'_>) -> u64 {
+        keyed.pair_sum::<Self>() % PRIME % TAGS
     }
 }

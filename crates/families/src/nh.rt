@@ -1,11 +1,13 @@
 // NH: the sum over pairs of (k1 + m1 mod 2^32) × (k2 + m2 mod 2^32), modulo 2^64.
+ghost use Rattle.std.specs.Prelude.{◌^◌, refl};
 ghost use Rattle.families.specs.Pairs.{nh, product};
 ghost use Rattle.families.specs.Laws.Solutions.{nh_lawful};
 
 use crate::family::Family;
-use crate::pairs::{Pairing, pair_sum};
-use crate::width::{WidthError, check_width};
+use crate::pairs::Pairing;
+use crate::width::Keyed;
 
+#[derive(Clone, Copy, PartialEq, Eq, Debug)]
 pub struct Nh;
 
 impl Pairing for Nh {
@@ -21,26 +23,19 @@ impl Pairing for Nh {
 impl Family for Nh {
     ghost meaning = { nh };
 
-    ghost count = { 1 };
-
     const COUNT: u32 = 1;
+
+    ghost COUNT = { 1 };
+
+    const MODULUS: u128 = 1 << 64;
+
+    ghost MODULUS = { 2 ^ 64 };
+
+    ghost modulus_is = { refl };
 
     ghost lawful = { nh_lawful };
 
-    fn colliding_values() -> u32 {
-        Self::COUNT
-    }
-
-    fn tag(keys: &[u32], words: &[u32]) -> Result<u64, WidthError> {
-        check_width(keys.len(), words.len())?;
-        Ok(pair_sum::<Self>(keys, words))
-    }
-
-    fn add_pad(tag: u64, pad: u64) -> u64 {
-        tag.wrapping_add(pad)
-    }
-
-    fn is_tag(_number: u64) -> bool {
-        true
+    fn keyed_tag(keyed: &Keyed<'_>) -> u64 {
+        keyed.pair_sum::<Self>()
     }
 }

@@ -1,16 +1,18 @@
 // NHS: NH with every word read as signed. The sums k + m wrap into the range of i32, and the sum of their products
 // is taken modulo 2^64.
-ghost use Rattle.std.specs.Prelude.{◌≡◌, ◌%◌, ◌^◌, ◌*ℤ◌};
+ghost use Rattle.std.specs.Prelude.{◌≡◌, ◌%◌, ◌^◌, ◌*ℤ◌, refl};
 ghost use Rattle.families.specs.Pairs.{nhs, residue, signed_product, signed_sum};
 ghost use Rattle.families.specs.Laws.Signs.{nhs_lawful};
 
 use crate::family::Family;
-use crate::pairs::{Pairing, pair_sum};
-use crate::width::{WidthError, check_width};
+use crate::pairs::Pairing;
+use crate::width::Keyed;
 
+#[derive(Clone, Copy, PartialEq, Eq, Debug)]
 pub struct Nhs;
 
 // Two words read as signed, and their sum, which wraps.
+#[tactic(auto, using(std::proofs::lemmas::Int::wraps))]
 fn signed_sum(k: u32, m: u32) -> i32
     ensures { result ≡ signed_sum k m }
 {
@@ -36,26 +38,19 @@ impl Pairing for Nhs {
 impl Family for Nhs {
     ghost meaning = { nhs };
 
-    ghost count = { 2 };
-
     const COUNT: u32 = 2;
+
+    ghost COUNT = { 2 };
+
+    const MODULUS: u128 = 1 << 64;
+
+    ghost MODULUS = { 2 ^ 64 };
+
+    ghost modulus_is = { refl };
 
     ghost lawful = { nhs_lawful };
 
-    fn colliding_values() -> u32 {
-        Self::COUNT
-    }
-
-    fn tag(keys: &[u32], words: &[u32]) -> Result<u64, WidthError> {
-        check_width(keys.len(), words.len())?;
-        Ok(pair_sum::<Self>(keys, words))
-    }
-
-    fn add_pad(tag: u64, pad: u64) -> u64 {
-        tag.wrapping_add(pad)
-    }
-
-    fn is_tag(_number: u64) -> bool {
-        true
+    fn keyed_tag(keyed: &Keyed<'_>) -> u64 {
+        keyed.pair_sum::<Self>()
     }
 }

@@ -6,6 +6,7 @@ ghost use Rattle.families.specs.Primes.{Prime};
 pub(crate) const PRIME: u64 = 4_294_967_311;
 
 // The modulus of MMH*, by which MMH reduces too: a prime.
+#[tactic(auto, using(crate::specs::Laws::Trials::prime))]
 pub fn prime_modulus() -> u64
     ensures value { result ≡ 4294967311 }
     ensures prime { Prime result }

@@ -1,13 +1,13 @@
 -- Products modulo a prime.
 use Rattle.std.specs.Prelude.{◌≡◌, ℕ, zero, suc, ◌+◌, ◌-◌, ◌*◌, ◌/◌, ◌%◌, ◌<◌, ◌≤◌, ◌≢◌, ◌⊎◌, refl}
 use Rattle.std.proofs.Common.{sym, ◌∙◌, ap, subst₂, inl, inr, ⊎_elim, mul-add, add-mul, mul_assoc, mul_comm, mul_left_comm, mul-one, one-mul, not-suc-le-zero, mod-lt, mod-eq_of_lt, div-add-mod', add-zero, add_comm, arith}
-use Rattle.std.proofs.Math.Nat.{mul-mod_left, mul-add-mod_self_right, zero-mod}
+use Rattle.std.proofs.Math.Nat.{div-mul_cancel, dvd_of_mod-eq-zero, mul-mod_left, mul-add-mod_self_right, zero-mod}
 use Rattle.std.proofs.lemmas.Bool.{cases_order}
 use Rattle.families.specs.Primes.{Prime}
 use Rattle.families.specs.Laws.Residues.{cancel}
 
 quotient : (p x : ℕ) → x % p ≡ 0 → x / p * p ≡ x
-quotient p x e = sym (add-zero _) ∙ ap (λ r. x / p * p + r) (sym e) ∙ div-add-mod' x p
+quotient p x e = div-mul_cancel p (dvd_of_mod-eq-zero p e)
 
 -- p divides a * r where it divides a * b, and p = q * b + r
 descends : (p a b q r : ℕ) → q * b + r ≡ p → (a * b) % p ≡ 0 → (a * r) % p ≡ 0

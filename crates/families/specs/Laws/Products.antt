@@ -1,8 +1,9 @@
 -- What equal tags say of one pair: products of numbers that differ by less than 2^32, modulo 2^64.
 use Rattle.std.specs.Prelude.{◌≡◌, ℕ, ◌+◌, ◌-◌, ◌*◌, ◌%◌, ◌^◌, ◌<◌, ◌≤◌, ◌≢◌, ◌⊎◌}
-use Rattle.std.proofs.Common.{sym, ap, ◌∙◌, inl, inr, add_comm, mul-le-mul_right, arith}
+use Rattle.std.proofs.Common.{sym, ap, ◌∙◌, inl, inr, ⊎_elim, add_comm, mul-le-mul_right, arith}
+use Rattle.std.proofs.Math.Nat.{eq-zero-or-pos, mul-pos}
 use Rattle.std.proofs.lemmas.Nat.{mul-lt}
-use Rattle.std.proofs.lemmas.Bool.{cases_lt, cases_order}
+use Rattle.std.proofs.lemmas.Bool.{cases_order}
 
 -- what is added below the modulus and changes nothing is 0
 none_added : (b t : ℕ) → t < 2 ^ 64 → (b + t) % 2 ^ 64 ≡ b % 2 ^ 64 → t ≡ 0
@@ -49,11 +50,7 @@ level a a' x₁ x₂ y₁ y₂ ne la la' l₁ l₂ even e = go (cases_order a a'
     go (inr (inr over)) (inr (inr up)) = level_over a a' x₁ x₂ y₁ y₂ over la (omega arith) (omega arith) (omega arith) e
 
 factor_zero : (a u : ℕ) → 0 < u → a * u ≡ 0 → a ≡ 0
-factor_zero a u pos none = go (cases_lt 0 a)
-  where
-    go : (0 < a) ⊎ (a ≤ 0) → a ≡ 0
-    go (inl more) = let most : 1 * u ≤ a * u = mul-le-mul_right u more in omega arith
-    go (inr less) = omega arith
+factor_zero a u pos none = ⊎_elim (λ zeroth. zeroth) (λ more. let above = mul-pos more pos in absurd (omega arith)) (eq-zero-or-pos a)
 
 -- words read as unsigned: no two solutions are of different classes
 pub crossed : (a a' x₁ x₂ y₁ y₂ : ℕ) → a ≢ a' → a < 2 ^ 32 → a' < 2 ^ 32 → x₁ < 2 ^ 32 → y₂ < 2 ^ 32 → x₁ + y₂ ≡ x₂ + y₁ + 2 ^ 32 → (a * x₁ + a' * y₂) % 2 ^ 64 ≢ (a * x₂ + a' * y₁) % 2 ^ 64

@@ -3,7 +3,7 @@ use Rattle.std.proofs.lemmas.Nat.{and_mask, mul-lt}
 use Rattle.families.specs.Dots.{products}
 use Rattle.families.proofs.Chunks.{turn, ended}
 use Rattle.families.specs.Laws.Dots.{dot_pairs}
-use Rattle.families.proofs.mmh_star.split_dot.Goals as goal
+use Rattle.families.proofs.width.Keyed.split_dot.Goals as goal
 
 pub loop-k-preserved : goal.loop-k-preserved
 loop-k-preserved c =
@@ -21,10 +21,9 @@ loop-k-preserved c =
     let two_bits = and_mask two 16 in
     record { in_pairs = t.in_pairs; low = omega arith; high = omega arith; sum = omega arith }
 
-pub returns : goal.returns
-returns c =
-    let inv = c.loop-k.invariant in
-    let steps = c.in-None.ensures.steps in
-    let none = ended products c.loop-k.k-iterator inv.in_pairs steps in
-    let all = dot_pairs c.args.keys.now c.args.words.now (search rules) (search rules) in
-    record { value = omega arith; small = omega arith }
+pub returns-clause-value : goal.returns-clause-value
+returns-clause-value c =
+    let none = ended products c.loop-k.k-iterator c.loop-k.invariant.in_pairs c.in-None.ensures.steps in
+    let keyed = c.args.self.now in
+    let all = dot_pairs keyed.keys.now keyed.words.now keyed.same keyed.even in
+    omega arith

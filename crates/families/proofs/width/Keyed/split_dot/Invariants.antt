@@ -2,7 +2,7 @@ use Rattle.std.proofs.Common.{◌≡◌, ◌+◌, ◌*◌, ◌^◌, ◌≤◌, l
 use Rattle.families.specs.Dots.{products}
 use Rattle.families.specs.Pairs.{pair_sum}
 use Rattle.families.proofs.Chunks.{InPairs, keys_left, words_left}
-use Rattle.families.proofs.mmh_star.split_dot.Given as goal
+use Rattle.families.proofs.width.Keyed.split_dot.Given as goal
 
 -- each word that is left adds less than 2^16 to the one sum, and less than 2^48 to the other
 abbrev pub invariant-loop-k : goal.invariant-loop-k
@@ -12,5 +12,5 @@ invariant-loop-k l =
       in_pairs : InPairs i;
       low : l.low + length (words_left i) * 2 ^ 16 ≤ 2 ^ 21;
       high : l.high + length (words_left i) * 2 ^ 48 ≤ 2 ^ 53;
-      sum : l.low + 2 ^ 16 * l.high + pair_sum products (keys_left i) (words_left i) ≡ pair_sum products l.keys l.words;
+      sum : l.low + 2 ^ 16 * l.high + pair_sum products (keys_left i) (words_left i) ≡ pair_sum products l.self.keys.now l.self.words.now;
     }
