@@ -1,0 +1,6 @@
+use Rattle.std.proofs.Common.{◌≡◌, take}
+use Rattle.jobs.specs.Reading.{tags_words}
+use Rattle.jobs.proofs.tag.split_tags.Given as goal
+
+abbrev pub invariant-loop-tag : goal.invariant-loop-tag
+invariant-loop-tag l = l.words.items ≡ tags_words (take l.tag-index l.tags)
