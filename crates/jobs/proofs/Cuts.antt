@@ -4,7 +4,9 @@ use native.Mathlib.Nat.{div-eq_of_lt-le, zero-div, div-add-mod}
 use Rattle.std.specs.Simd.{first_chunks}
 use Rattle.std.specs.List.{flat_map, AllByRecursion}
 use Rattle.std.proofs.ByRecursion.{All-push}
-use Rattle.std.proofs.lemmas.List.{append-nil, length-take, length-take-le, length-drop, drop-drop, take_at, drop_at, take_all, take-append-drop, take-take, drop-take, nil_from_length}
+use Rattle.std.proofs.lemmas.List.{append-nil, length-take, length-take-le, length-drop, drop-drop, take_at, drop_at, take_all, take-append-drop, take-take, nil_from_length}
+use Rattle.std.proofs.Math.Seq.{take-add}
+use Rattle.std.proofs.lemmas.Grind.{flat_map-append}
 use Rattle.std.proofs.lemmas.Bool.{cases_lt}
 use Rattle.jobs.specs.Cutting.{cut, blocks, Split}
 use Rattle.jobs.specs.Laws.{CutWell}
@@ -19,10 +21,7 @@ chunk_at n (suc k) xs (suc i) d le =
 
 -- a front, and what comes next
 pub take_next : {X : Type 0} (xs : List X) (at n : ℕ) → take at xs ++ take n (drop at xs) ≡ take (at + n) xs
-take_next xs at n =
-    sym (sym (take-append-drop at (take (at + n) xs))
-    ∙ ap (λ ys. ys ++ drop at (take (at + n) xs)) (take-take at (at + n) xs (omega arith))
-    ∙ ap (λ ys. take at xs ++ ys) (drop-take at n xs))
+take_next xs at n = sym (take-add at n xs)
 
 -- the chunks of 128 items of a front, one behind the other
 pub chunk_next : {X : Type 0} (xs ys : List X) (cs : List (List X)) (w i : ℕ) → ys ≡ take w xs → cs ≡ first_chunks 128 (length ys / 128) ys → i < length ys / 128 → take (128 * i) xs ++ get_or cs i [] ≡ take (128 * (i + 1)) xs
@@ -36,10 +35,6 @@ chunk_next xs ys cs w i front chunks low =
     ∙ take-take (128 * i + 128) w xs (omega arith)
     ∙ ap (λ n. take n xs) more
 
-joined_push : {X : Type 0} (bs : List (List X)) (b : List X) → flat_map (λ c. c) (bs ++ b ∷ []) ≡ flat_map (λ c. c) bs ++ b
-joined_push [] b = append-nil b
-joined_push (c ∷ bs) b = ap (λ r. c ++ r) (joined_push bs b) ∙ sym (append_assoc c (flat_map (λ c. c) bs) b)
-
 -- a part goes to the rest, as far as there is room
 pub split-append : {X : Type 0} {n : ℕ} {xs : List X} {whole : List (List X)} {rest : List X} (p : List X) → Split n xs whole rest → length rest + length p ≤ n → Split n (xs ++ p) whole (rest ++ p)
 split-append {whole = whole} {rest = rest} p s h = record {
@@ -51,7 +46,7 @@ split-append {whole = whole} {rest = rest} p s h = record {
 -- a full rest becomes a whole block
 pub split_flush : {X : Type 0} {n : ℕ} {xs : List X} {whole : List (List X)} {rest : List X} → Split n xs whole rest → length rest ≡ n → Split n xs (whole ++ rest ∷ []) []
 split_flush {n = n} {whole = whole} {rest = rest} s e = record {
-  joins = s.joins ∙ sym (append-nil _ ∙ joined_push whole rest);
+  joins = s.joins ∙ sym (append-nil _ ∙ flat_map-append (λ b. b) whole (rest ∷ []) ∙ ap (λ ys. flat_map (λ b. b) whole ++ ys) (append-nil rest));
   full = All-push (λ b. length b ≡ n) whole rest s.full e;
   short = omega arith;
 }

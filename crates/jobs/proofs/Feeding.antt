@@ -1,8 +1,8 @@
 -- What a job stands for, from one call to the next.
-use Rattle.std.proofs.Common.{◌≡◌, ℕ, ◌+◌, ◌^◌, ◌<◌, ◌≤◌, List, ◌++◌, length, get_or, drop, ap, ◌∙◌, append_assoc, arith, length-append, w8, w32, Fits}
+use Rattle.std.proofs.Common.{◌≡◌, ℕ, ◌+◌, ◌<◌, ◌≤◌, List, ◌++◌, length, get_or, drop, ap, ◌∙◌, append_assoc, arith, length-append, w8, Fits}
 use native.Mathlib.Decide.{dec_lt}
 use Rattle.std.proofs.ByRecursion.{All-append, All-from_get_or}
-use Rattle.families.specs.Meanings.{Meaning, Words}
+use Rattle.families.specs.Meanings.{Meaning}
 use Rattle.families.specs.declared.family.Family.{Ghosts}
 use Rattle.jobs.specs.Reading.{Bytes}
 use Rattle.jobs.specs.Roots.{Job, root_tag, root_words, top_tag}
@@ -10,10 +10,7 @@ use Rattle.jobs.specs.Holding.{StreamHolds}
 use Rattle.jobs.specs.Jobs.{Holds, fed}
 use Rattle.jobs.specs.declared.state.OpenJob.{OpenJob}
 
--- what a slice of `u32` holds is words, and what a slice of `u8` holds is bytes
-pub words_typed : (xs : List ℕ) → ((i : ℕ) → Fits w32 (get_or xs i 0)) → Words xs
-words_typed xs typed = All-from_get_or (λ x. x < 2 ^ 32) xs 0 (λ i _. (typed i).fits)
-
+-- what a slice of `u8` holds is bytes
 pub bytes_typed : (xs : List ℕ) → ((i : ℕ) → Fits w8 (get_or xs i 0)) → Bytes xs
 bytes_typed xs typed = All-from_get_or (λ x. x < 256) xs 0 (λ i _. (typed i).fits)
 

@@ -3,7 +3,7 @@ use Rattle.std.proofs.Common.{◌≡◌, ℕ, zero, suc, ◌+◌, ◌-◌, ◌*�
 use Rattle.std.proofs.ByRecursion.{All-get_or}
 use Rattle.std.proofs.lemmas.List.Edits.{fill_by_more}
 use Rattle.std.proofs.lemmas.List.FromFn.{fill_by_all, length-map-range_with_len, get_or-map-range_with_len, take-map-range_with_len}
-use Rattle.std.proofs.lemmas.List.{ext_get_or, get_or-take, get_or-drop, get_or_append_left, get_or-append_right, get_or_past, drop-replicate}
+use Rattle.std.proofs.lemmas.List.{ext_get_or, get_or-take, get_or-drop, get_or_append_left, get_or-append_right, get_or_past}
 use Rattle.std.proofs.lemmas.Bool.{cases_lt}
 use Rattle.jobs.specs.Reading.{Bytes, word_at, words_of, byte_words}
 
@@ -53,17 +53,12 @@ same_words n bs cs same =
         let d = same (4 * i + 3) in
         omega arith
 
--- zero bytes behind some bytes
-pub zeros_behind : (bs cs : List ℕ) (n k : ℕ) → cs ≡ bs → k ≡ length bs → cs ++ drop k (replicate n 0) ≡ bs ++ replicate (n - length bs) 0
-zeros_behind bs cs n k same long =
-    ap (λ xs. xs ++ drop k (replicate n 0)) same ∙ ap (λ i. bs ++ drop i (replicate n 0)) long ∙ ap (λ xs. bs ++ xs) (drop-replicate (length bs) n 0)
-
 get_or-zeros : (k i : ℕ) → get_or {A = ℕ} (replicate k 0) i 0 ≡ 0
 get_or-zeros zero i = refl
 get_or-zeros (suc k) zero = refl
 get_or-zeros (suc k) (suc i) = get_or-zeros k i
 
--- they do not change what is read
+-- zero bytes behind some bytes do not change what is read
 pub zeros_read : (bs : List ℕ) (k i : ℕ) → get_or (bs ++ replicate k 0) i 0 ≡ get_or bs i 0
 zeros_read bs k i = go (cases_lt i (length bs))
   where

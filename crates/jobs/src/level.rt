@@ -1,6 +1,7 @@
 // One level above the first, and the levels above one another.
-ghost use Rattle.std.specs.Prelude.{◌≡◌, ℕ, ◌^◌, ◌<◌, List, [], ◌∷◌, ◌++◌, length, take, slice_index};
+ghost use Rattle.std.specs.Prelude.{◌≡◌, ℕ, ◌^◌, ◌<◌, List, [], ◌∷◌, ◌++◌, length, take, slice_index, IfSome, OnSome, IfNone};
 ghost use Rattle.std.specs.Option.{option_to_list};
+ghost use Rattle.arrayvec.specs.ArrayVec.{array_vec_len};
 ghost use Rattle.jobs.specs.Roots.{climb};
 ghost use Rattle.jobs.specs.Holding.{tags_tag, LevelHolds, LevelsHold};
 
@@ -31,18 +32,30 @@ impl<F: Family> Level<F> {
         words_tag::<F>(&self.keys, split_tags(self.tags.as_slice()).as_slice())
     }
 
-    // Takes a tag in; where the block was full, hands on its tag and begins another.
-    fn push(&mut self, tag: u64) -> Option<u64>
-        ensures { (ks ts ups : List ℕ) → LevelHolds F.meaning ks self.old ts ups → LevelHolds F.meaning ks self.new (ts ++ tag ∷ []) (ups ++ option_to_list result) }
+    // The tag of the block that waits here, where it is full; then none waits.
+    fn take_full(&mut self) -> Option<u64>
+        ensures keys { self.new.keys ≡ self.old.keys }
+        ensures room { array_vec_len self.new.tags < 16 }
+        ensures tag { IfSome result (λ up. up ≡ tags_tag F.meaning self.old.keys self.old.tags.items) }
+        ensures full { OnSome result (array_vec_len self.old.tags ≡ 16) }
+        ensures empty { OnSome result (self.new.tags.items ≡ []) }
+        ensures kept { IfNone result (self.new.tags.items ≡ self.old.tags.items) }
     {
         if !self.tags.is_full() {
-            self.tags.push(tag);
             return None;
         }
         let up = self.tag();
         self.tags.clear();
-        self.tags.push(tag);
         Some(up)
+    }
+
+    // Takes a tag in; where the block was full, hands on its tag and begins another.
+    fn push(&mut self, tag: u64) -> Option<u64>
+        ensures { (ks ts ups : List ℕ) → LevelHolds F.meaning ks self.old ts ups → LevelHolds F.meaning ks self.new (ts ++ tag ∷ []) (ups ++ option_to_list result) }
+    {
+        let up = self.take_full();
+        self.tags.push(tag);
+        up
     }
 }
 

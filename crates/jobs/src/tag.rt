@@ -1,5 +1,6 @@
 // Tags as words, and the root list.
-ghost use Rattle.std.specs.Prelude.{◌≡◌, ◌≤◌, [], ◌∷◌, length};
+ghost use Rattle.std.specs.Prelude.{◌≡◌, ◌*◌, ◌≤◌, [], ◌∷◌, length};
+ghost use Rattle.arrayvec.specs.ArrayVec.{array_vec_len};
 ghost use Rattle.jobs.specs.Reading.{tag_words, tags_words};
 ghost use Rattle.jobs.specs.Roots.{root_words};
 
@@ -17,7 +18,8 @@ pub fn split_tag(tag: u64) -> (u32, u32)
 // The words of a block of tags, two for each.
 pub(crate) fn split_tags(tags: &[u64]) -> ArrayVec<u32, 32>
     requires { length tags.now ≤ 16 }
-    ensures { result.items ≡ tags_words tags.now }
+    ensures words { result.items ≡ tags_words tags.now }
+    ensures len { array_vec_len result ≡ 2 * length tags.now }
 {
     let mut words = ArrayVec::new();
     for &tag in tags {
