@@ -1,34 +1,39 @@
 -- Lists cut into blocks.
-use Rattle.std.proofs.Common.{◌≡◌, ℕ, zero, suc, ◌+◌, ◌-◌, ◌*◌, ◌/◌, ◌<◌, ◌≤◌, ◌⊎◌, List, [], ◌∷◌, ◌++◌, length, take, drop, set, sym, refl, ap, ◌∙◌, subst, inl, inr, append_assoc, mod-lt, mul_comm, mul-zero, mul-add, arith, length-append}
+use Rattle.std.proofs.Common.{◌≡◌, ℕ, zero, suc, ◌+◌, ◌-◌, ◌*◌, ◌/◌, ◌<◌, ◌≤◌, ◌⊎◌, List, [], ◌∷◌, ◌++◌, length, get_or, take, drop, sym, refl, ap, ◌∙◌, subst, inl, inr, append_assoc, mod-lt, mul_comm, mul-zero, mul-suc, mul-add, arith, length-append}
 use native.Mathlib.Nat.{div-eq_of_lt-le, zero-div, div-add-mod}
+use Rattle.std.specs.Simd.{first_chunks}
 use Rattle.std.specs.List.{flat_map, AllByRecursion}
 use Rattle.std.proofs.ByRecursion.{All-push}
-use Rattle.std.proofs.lemmas.List.{take_more_set, append-nil, length-set, length-take-le, length-drop, take_at, drop_at, take_all, take-append-drop, take-take, drop-take, nil_from_length}
+use Rattle.std.proofs.lemmas.List.{append-nil, length-take, length-take-le, length-drop, drop-drop, take_at, drop_at, take_all, take-append-drop, take-take, nil_from_length}
+use Rattle.std.proofs.Math.Seq.{take-add}
+use Rattle.std.proofs.lemmas.Grind.{flat_map-append}
 use Rattle.std.proofs.lemmas.Bool.{cases_lt}
 use Rattle.jobs.specs.Cutting.{cut, blocks, Split}
 use Rattle.jobs.specs.Laws.{CutWell}
 
--- two words written at the end of a front
-pub take_two : (ws : List ℕ) (n a b : ℕ) → 2 * n + 1 < length ws → take (2 * (n + 1)) (set (set ws (2 * n) a) (2 * n + 1) b) ≡ take (2 * n) ws ++ a ∷ b ∷ []
-take_two ws n a b h =
-    let e : 2 * (n + 1) ≡ 2 * n + 1 + 1 = omega arith in
-    let l : 2 * n + 1 < length (set ws (2 * n) a) = simp length-set h in
-    let l' : 2 * n < length ws = omega arith in
-    ap (λ k. take k (set (set ws (2 * n) a) (2 * n + 1) b)) e
-    ∙ take_more_set (set ws (2 * n) a) (2 * n + 1) b l
-    ∙ ap (λ xs. xs ++ b ∷ []) (take_more_set ws (2 * n) a l')
-    ∙ append_assoc (take (2 * n) ws) (a ∷ []) (b ∷ [])
+-- the chunk at place i of the first k chunks of n items
+pub chunk_at : {X : Type 0} (n k : ℕ) (xs : List X) (i : ℕ) (d : List X) → i < k → get_or (first_chunks n k xs) i d ≡ take n (drop (n * i) xs)
+chunk_at n zero xs i d le = absurd (omega arith)
+chunk_at n (suc k) xs zero d le = ap (λ j. take n (drop j xs)) (sym (mul-zero n))
+chunk_at n (suc k) xs (suc i) d le =
+    let place : n + n * i ≡ n * suc i = let e = mul-suc n i in omega arith in
+    chunk_at n k (drop n xs) i d (omega arith) ∙ ap (take n) (drop-drop (n * i) n xs ∙ ap (λ j. drop j xs) place)
 
 -- a front, and what comes next
 pub take_next : {X : Type 0} (xs : List X) (at n : ℕ) → take at xs ++ take n (drop at xs) ≡ take (at + n) xs
-take_next xs at n =
-    sym (sym (take-append-drop at (take (at + n) xs))
-    ∙ ap (λ ys. ys ++ drop at (take (at + n) xs)) (take-take at (at + n) xs (omega arith))
-    ∙ ap (λ ys. take at xs ++ ys) (drop-take at n xs))
+take_next xs at n = sym (take-add at n xs)
 
-joined_push : {X : Type 0} (bs : List (List X)) (b : List X) → flat_map (λ c. c) (bs ++ b ∷ []) ≡ flat_map (λ c. c) bs ++ b
-joined_push [] b = append-nil b
-joined_push (c ∷ bs) b = ap (λ r. c ++ r) (joined_push bs b) ∙ sym (append_assoc c (flat_map (λ c. c) bs) b)
+-- the chunks of 128 items of a front, one behind the other
+pub chunk_next : {X : Type 0} (xs ys : List X) (cs : List (List X)) (w i : ℕ) → ys ≡ take w xs → cs ≡ first_chunks 128 (length ys / 128) ys → i < length ys / 128 → take (128 * i) xs ++ get_or cs i [] ≡ take (128 * (i + 1)) xs
+chunk_next xs ys cs w i front chunks low =
+    let long = ap length front ∙ length-take w xs in
+    let more : 128 * i + 128 ≡ 128 * (i + 1) = omega arith in
+    ap (λ zs. zs ++ get_or cs i []) (sym (ap (take (128 * i)) front ∙ take-take (128 * i) w xs (omega arith)))
+    ∙ ap (λ zs. take (128 * i) ys ++ zs) (ap (λ ds. get_or ds i []) chunks ∙ chunk_at 128 (length ys / 128) ys i [] low)
+    ∙ take_next ys (128 * i) 128
+    ∙ ap (take (128 * i + 128)) front
+    ∙ take-take (128 * i + 128) w xs (omega arith)
+    ∙ ap (λ n. take n xs) more
 
 -- a part goes to the rest, as far as there is room
 pub split-append : {X : Type 0} {n : ℕ} {xs : List X} {whole : List (List X)} {rest : List X} (p : List X) → Split n xs whole rest → length rest + length p ≤ n → Split n (xs ++ p) whole (rest ++ p)
@@ -41,7 +46,7 @@ split-append {whole = whole} {rest = rest} p s h = record {
 -- a full rest becomes a whole block
 pub split_flush : {X : Type 0} {n : ℕ} {xs : List X} {whole : List (List X)} {rest : List X} → Split n xs whole rest → length rest ≡ n → Split n xs (whole ++ rest ∷ []) []
 split_flush {n = n} {whole = whole} {rest = rest} s e = record {
-  joins = s.joins ∙ sym (append-nil _ ∙ joined_push whole rest);
+  joins = s.joins ∙ sym (append-nil _ ∙ flat_map-append (λ b. b) whole (rest ∷ []) ∙ ap (λ ys. flat_map (λ b. b) whole ++ ys) (append-nil rest));
   full = All-push (λ b. length b ≡ n) whole rest s.full e;
   short = omega arith;
 }

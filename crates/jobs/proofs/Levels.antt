@@ -1,46 +1,57 @@
 -- What a level holds, from one tag to the next.
-use Rattle.std.proofs.Common.{◌≡◌, ℕ, ◌+◌, ◌-◌, ◌*◌, ◌<◌, ◌≤◌, List, [], ◌∷◌, ◌++◌, map, length, take, sym, refl, ap, ◌∙◌, arith}
+use Rattle.std.proofs.Common.{◌≡◌, ℕ, ◌<◌, ◌≤◌, List, [], ◌∷◌, ◌++◌, map, length, take, Some, None, Option, IfSome, OnSome, IfNone, sym, refl, ap, ◌∙◌, subst, arith}
 use Rattle.std.proofs.lemmas.List.{append-nil, take-take, map_push, length_push}
+use Rattle.std.specs.Option.{option_to_list}
 use Rattle.families.specs.Meanings.{Meaning}
-use Rattle.jobs.specs.Reading.{tag_words, tags_words}
+use Rattle.jobs.specs.Cutting.{Split}
+use Rattle.jobs.specs.Reading.{tags_words}
 use Rattle.jobs.specs.Roots.{block_tag}
 use Rattle.jobs.specs.Holding.{tags_tag, LevelHolds}
 use Rattle.jobs.specs.declared.state.Level.{Level}
-use Rattle.jobs.proofs.Cuts.{split-append, split_flush}
+use Rattle.jobs.proofs.Cuts.{split_none, split-append, split_flush}
 
 -- a tag under the front of a stretch is a block's
-pub tag_of_front : (m : Meaning) (ks ws : List ℕ) → length ws ≤ 32 → m.tag (take (length ws - 0) ks) ws ≡ block_tag m ks ws
-tag_of_front m ks ws small =
-    let z : length ws - 0 ≡ length ws = omega arith in
-    ap (λ k. m.tag (take k ks) ws) z ∙ ap (λ xs. m.tag xs ws) (sym (take-take (length ws) 32 ks small))
+pub tag_of_front : (m : Meaning) (ks ws : List ℕ) → length ws ≤ 32 → m.tag (take (length ws) ks) ws ≡ block_tag m ks ws
+tag_of_front m ks ws small = ap (λ xs. m.tag xs ws) (sym (take-take (length ws) 32 ks small))
 
-tags_words_push : (ts : List ℕ) (t : ℕ) → tags_words (ts ++ t ∷ []) ≡ tags_words ts ++ tag_words t
-tags_words_push [] t = refl
-tags_words_push (u ∷ ts) t = ap (λ ws. tag_words u ++ ws) (tags_words_push ts t)
+-- a block's tag is that under its stretch alone
+pub tag_of_stretch : (m : Meaning) (ks keys ws : List ℕ) → keys ≡ take 32 ks → block_tag m keys ws ≡ block_tag m ks ws
+tag_of_stretch m ks keys ws e =
+    ap (λ xs. m.tag (take (length ws) (take 32 xs)) ws) e ∙ ap (λ xs. m.tag (take (length ws) xs) ws) (take-take 32 32 ks (omega arith))
 
-module _ (m : Meaning) (ks : List ℕ) (l l' : Level) (t : ℕ) where
-  -- a tag that found room
-  pub stored : l.count < 16 → l'.count ≡ l.count + 1 → take (2 * l'.count) l'.words ≡ take (2 * l.count) l.words ++ tag_words t → (ts ups : List ℕ) → LevelHolds m ks l ts ups → LevelHolds m ks l' (ts ++ t ∷ []) (ups ++ [])
-  stored room more words ts ups h =
-      let n = h.count in let p = length_push h.rest t in record {
-        whole = h.whole;
-        rest = h.rest ++ t ∷ [];
-        split = split-append (t ∷ []) h.split (omega arith);
-        waits = λ _. omega arith;
-        count = omega arith;
-        words = words ∙ ap (λ ws. ws ++ tag_words t) h.words ∙ sym (tags_words_push h.rest t);
-        passed = append-nil ups ∙ h.passed;
-      }
+pub empty_level : {F : Type 0} (m : Meaning) (ks : List ℕ) (l : Level F) → l.keys ≡ take 32 ks → l.tags.items ≡ [] → LevelHolds m ks l [] []
+empty_level m ks l keyed none = record {
+  keyed = keyed;
+  whole = [];
+  split = subst (Split 16 [] []) (sym none) split_none;
+  waits = λ p. absurd (omega arith);
+  passed = refl;
+}
 
-  -- a tag that began a block, as the full one was handed on
-  pub begun : (up : ℕ) → l.count ≡ 16 → up ≡ block_tag m ks (take (2 * l.count) l.words) → l'.count ≡ 1 → take (2 * l'.count) l'.words ≡ tag_words t → (ts ups : List ℕ) → LevelHolds m ks l ts ups → LevelHolds m ks l' (ts ++ t ∷ []) (ups ++ up ∷ [])
-  begun up full is one words ts ups h =
-      let n = h.count in record {
-        whole = h.whole ++ h.rest ∷ [];
-        rest = t ∷ [];
-        split = split-append (t ∷ []) (split_flush h.split (omega arith)) (omega arith);
-        waits = λ _. omega arith;
-        count = one;
-        words = words;
-        passed = ap (λ us. us ++ up ∷ []) h.passed ∙ ap (λ u. map (tags_tag m ks) h.whole ++ u ∷ []) (is ∙ ap (block_tag m ks) h.words) ∙ sym (map_push (tags_tag m ks) h.whole h.rest);
-      }
+-- a level took a tag in, behind what was left when a full block was taken out
+pub pushed : {F : Type 0} (m : Meaning) (ks : List ℕ) (l left l' : Level F) (t : ℕ) (up : Option ℕ) → left.keys ≡ l.keys → l'.keys ≡ left.keys → length left.tags.items < 16
+    → IfSome up (λ u. u ≡ tags_tag m l.keys l.tags.items) → OnSome up (length l.tags.items ≡ 16) → OnSome up (left.tags.items ≡ []) → IfNone up (left.tags.items ≡ l.tags.items)
+    → l'.tags.items ≡ left.tags.items ++ t ∷ [] → (ts ups : List ℕ) → LevelHolds m ks l ts ups → LevelHolds m ks l' (ts ++ t ∷ []) (ups ++ option_to_list up)
+pushed m ks l left l' t None keys keys' room tag full empty kept more ts ups h =
+    let is = more ∙ ap (λ xs. xs ++ t ∷ []) kept in
+    let n = ap length is in
+    let p = length_push l.tags.items t in
+    let q = ap length kept in record {
+      keyed = keys' ∙ keys ∙ h.keyed;
+      whole = h.whole;
+      split = subst (Split 16 (ts ++ t ∷ []) h.whole) (sym is) (split-append (t ∷ []) h.split (omega arith));
+      waits = λ _. omega arith;
+      passed = append-nil ups ∙ h.passed;
+    }
+pushed m ks l left l' t (Some up) keys keys' room tag full empty kept more ts ups h =
+    let is = more ∙ ap (λ xs. xs ++ t ∷ []) empty in
+    let n = ap length is in record {
+      keyed = keys' ∙ keys ∙ h.keyed;
+      whole = h.whole ++ l.tags.items ∷ [];
+      split = subst (Split 16 (ts ++ t ∷ []) (h.whole ++ l.tags.items ∷ [])) (sym is) (split-append (t ∷ []) (split_flush h.split full) (omega arith));
+      waits = λ _. omega arith;
+      passed =
+          ap (λ us. us ++ up ∷ []) h.passed
+          ∙ ap (λ u. map (tags_tag m ks) h.whole ++ u ∷ []) (tag ∙ tag_of_stretch m ks l.keys (tags_words l.tags.items) h.keyed)
+          ∙ sym (map_push (tags_tag m ks) h.whole l.tags.items);
+    }

@@ -1,9 +1,9 @@
 -- Bytes as words.
-use Rattle.std.proofs.Common.{◌≡◌, ℕ, zero, suc, ◌+◌, ◌-◌, ◌*◌, ◌/◌, ◌%◌, ◌<◌, ◌≤◌, ◌⊎◌, List, ◌++◌, length, get_or, take, drop, set, replicate, sym, refl, ap, ◌∙◌, inl, inr, arith}
+use Rattle.std.proofs.Common.{◌≡◌, ℕ, zero, suc, ◌+◌, ◌-◌, ◌*◌, ◌/◌, ◌%◌, ◌<◌, ◌≤◌, ◌⊎◌, List, ◌++◌, length, get_or, take, drop, set, replicate, sym, refl, ap, ◌∙◌, inl, inr, add-zero, arith}
 use Rattle.std.proofs.ByRecursion.{All-get_or}
 use Rattle.std.proofs.lemmas.List.Edits.{fill_by_more}
 use Rattle.std.proofs.lemmas.List.FromFn.{fill_by_all, length-map-range_with_len, get_or-map-range_with_len, take-map-range_with_len}
-use Rattle.std.proofs.lemmas.List.{ext_get_or, get_or_append_left, get_or-append_right, get_or_past, drop-replicate}
+use Rattle.std.proofs.lemmas.List.{ext_get_or, get_or-take, get_or-drop, get_or_append_left, get_or-append_right, get_or_past}
 use Rattle.std.proofs.lemmas.Bool.{cases_lt}
 use Rattle.jobs.specs.Reading.{Bytes, word_at, words_of, byte_words}
 
@@ -14,6 +14,18 @@ words_all bs ws n long h = fill_by_all (word_at bs) ws n 0 long h
 
 pub word_more : (bs ws : List ℕ) (i w : ℕ) → i < length ws → w ≡ word_at bs i → ((k : ℕ) → k < i → get_or ws k 0 ≡ word_at bs k) → (k : ℕ) → k < i + 1 → get_or (set ws i w) k 0 ≡ word_at bs k
 word_more bs ws i w le e h k l = ap (λ v. get_or (set ws i v) k 0) e ∙ fill_by_more (word_at bs) ws i 0 le h k l
+
+-- the word that a chunk of four bytes makes
+pub word_of_chunk : (bs four : List ℕ) (i : ℕ) → four ≡ take 4 (drop (4 * i) bs) → get_or four 0 0 + get_or four 1 0 * 256 + get_or four 2 0 * 65536 + get_or four 3 0 * 16777216 ≡ word_at bs i
+word_of_chunk bs four i e =
+    let a = byte 0 (omega arith) ∙ ap (λ n. get_or bs n 0) (add-zero (4 * i)) in
+    let b = byte 1 (omega arith) in
+    let c = byte 2 (omega arith) in
+    let d = byte 3 (omega arith) in
+    omega arith
+  where
+    byte : (j : ℕ) → j < 4 → get_or four j 0 ≡ get_or bs (4 * i + j) 0
+    byte j low = ap (λ xs. get_or xs j 0) e ∙ get_or-take 4 (drop (4 * i) bs) j 0 low ∙ get_or-drop (4 * i) bs j 0
 
 pub length-words_of : (n : ℕ) (bs : List ℕ) → length (words_of n bs) ≡ n
 unfolding words_of
@@ -41,17 +53,12 @@ same_words n bs cs same =
         let d = same (4 * i + 3) in
         omega arith
 
--- zero bytes behind some bytes
-pub zeros_behind : (bs cs : List ℕ) (n k : ℕ) → cs ≡ bs → k ≡ length bs → cs ++ drop k (replicate n 0) ≡ bs ++ replicate (n - length bs) 0
-zeros_behind bs cs n k same long =
-    ap (λ xs. xs ++ drop k (replicate n 0)) same ∙ ap (λ i. bs ++ drop i (replicate n 0)) long ∙ ap (λ xs. bs ++ xs) (drop-replicate (length bs) n 0)
-
 get_or-zeros : (k i : ℕ) → get_or {A = ℕ} (replicate k 0) i 0 ≡ 0
 get_or-zeros zero i = refl
 get_or-zeros (suc k) zero = refl
 get_or-zeros (suc k) (suc i) = get_or-zeros k i
 
--- they do not change what is read
+-- zero bytes behind some bytes do not change what is read
 pub zeros_read : (bs : List ℕ) (k i : ℕ) → get_or (bs ++ replicate k 0) i 0 ≡ get_or bs i 0
 zeros_read bs k i = go (cases_lt i (length bs))
   where

@@ -65,7 +65,7 @@ module _ (f : List ℕ → List ℕ) (size : ℕ → ℕ) (sized : (b : List ℕ
           let l = length-map (blocks n xs) f in
           ap length (get_or_past (map f (blocks n xs)) i [] (omega arith)) ∙ sym (ap length (get_or_past (map f (blocks n ys)) i [] (omega arith)))
 
-length-tags_words : (ts : List ℕ) → length (tags_words ts) ≡ 2 * length ts
+pub length-tags_words : (ts : List ℕ) → length (tags_words ts) ≡ 2 * length ts
 length-tags_words [] = refl
 length-tags_words (t ∷ ts) = let e = length-tags_words ts in omega arith
 

@@ -6,36 +6,33 @@ ghost use Rattle.jobs.specs.Holding.{bytes_tag};
 
 use families::Family;
 
-// Writes the words that the bytes make, lowest byte first.
-pub(crate) fn read_words(bytes: &[u8], words: &mut [u32])
-    requires { length bytes.now ≡ 4 * length words.old }
-    ensures { words.new ≡ words_of (length words.old) bytes.now }
+// The words that some bytes make, lowest byte first.
+pub(crate) fn read_words<const N: usize>(bytes: &[u8]) -> [u32; N]
+    requires { length bytes.now ≡ 4 * N }
+    ensures { result ≡ words_of N bytes.now }
 {
-    for i in 0..words.len() {
-        let at = 4 * i;
-        words[i] = u32::from_le_bytes([bytes[at], bytes[at + 1], bytes[at + 2], bytes[at + 3]]);
+    let (fours, _) = bytes.as_chunks::<4>();
+    let mut words = [0; N];
+    for (i, word) in words.iter_mut().enumerate() {
+        *word = u32::from_le_bytes(fours[i]);
     }
+    words
 }
 
 // The tag of a block of words, under the first words of a stretch of the card.
-pub(crate) fn words_tag<F: Family>(keys: &[u32], words: &[u32]) -> u64
-    requires { (32 ≤ length keys.now) × ((length words.now ≤ 32) × (length words.now % 2 ≡ 0)) }
+pub(crate) fn words_tag<F: Family>(keys: &[u32; 32], words: &[u32]) -> u64
+    requires short { length words.now ≤ 32 }
+    requires even { length words.now % 2 ≡ 0 }
     ensures { result ≡ block_tag F.meaning keys.now words.now }
 {
-    match F::tag(&keys[0..words.len()], words) {
-        Ok(tag) => tag,
-        Err(_) => unreachable(),
-    }
+    F::tag(&keys[..words.len()], words).unwrap()
 }
 
-// The tag of a whole block of 128 bytes, under the words of a card from level 1 on.
-pub(crate) fn full_tag<F: Family>(keys: &[u32], bytes: &[u8]) -> u64
-    requires { (160 ≤ length keys.now) × (length bytes.now ≡ 128) }
-    ensures { result ≡ bytes_tag F.meaning keys.now bytes.now }
+// The tag of a whole block of bytes.
+pub(crate) fn whole_tag<F: Family>(keys: &[u32; 32], block: &[u8; 128]) -> u64
+    ensures { result ≡ bytes_tag F.meaning keys.now block.now }
 {
-    let mut words = [0u32; 32];
-    read_words(bytes, &mut words);
-    words_tag::<F>(keys, &words)
+    words_tag::<F>(keys, &read_words::<32>(block))
 }
 
 // Bytes with zero bytes behind them, to a whole block.
@@ -44,17 +41,15 @@ fn fill_up(bytes: &[u8]) -> [u8; 128]
     ensures { result ≡ bytes.now ++ replicate (128 - length bytes.now) 0 }
 {
     let mut block = [0u8; 128];
-    block[0..bytes.len()].copy_from_slice(bytes);
+    block[..bytes.len()].copy_from_slice(bytes);
     block
 }
 
 // The tag of a last block of at most 128 bytes, filled with zero bytes to a multiple of eight.
-pub(crate) fn last_tag<F: Family>(keys: &[u32], bytes: &[u8]) -> u64
-    requires { (32 ≤ length keys.now) × (length bytes.now ≤ 128) }
+pub(crate) fn last_tag<F: Family>(keys: &[u32; 32], bytes: &[u8]) -> u64
+    requires { length bytes.now ≤ 128 }
     ensures { result ≡ bytes_tag F.meaning keys.now bytes.now }
 {
-    let block = fill_up(bytes);
-    let mut words = [0u32; 32];
-    read_words(&block, &mut words);
-    words_tag::<F>(keys, &words[0..2 * ((bytes.len() + 7) / 8)])
+    let words = read_words::<32>(&fill_up(bytes));
+    words_tag::<F>(keys, &words[..2 * bytes.len().div_ceil(8)])
 }

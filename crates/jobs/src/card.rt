@@ -20,7 +20,5 @@ pub fn read_card(bytes: &[u8]) -> Result<[u32; 164], CardError>
     if bytes.len() != BYTES {
         return Err(CardError);
     }
-    let mut words = [0u32; 164];
-    read_words(bytes, &mut words);
-    Ok(words)
+    Ok(read_words(bytes))
 }

@@ -12,27 +12,20 @@ use std::marker::PhantomData;
 // The most bytes of a document.
 const LIMIT: usize = 8_388_608;
 
-// Where the words of the root begin on the card.
-const ROOT: usize = 160;
-
 // A piece that would take the document past 8,388,608 bytes.
 #[derive(Clone, Copy, PartialEq, Eq, Debug)]
 pub struct TooLong;
 
 impl<F: Family> OpenJob<F> {
     // A job with an empty document, on its own copy of a card of the right length.
-    fn start(card: &[u32], label: u32) -> OpenJob<F>
-        requires { length card.now ≡ 164 }
+    fn start(card: &[u32; 164], label: u32) -> OpenJob<F>
         ensures { Holds F.meaning card.now (fresh label) result }
     {
-        let mut copy = [0u32; 164];
-        copy.copy_from_slice(card);
         OpenJob {
-            card: copy,
+            stream: Stream::new(card),
+            root_keys: *card.last_chunk().unwrap(),
             label,
             length: 0,
-            stream: Stream::empty::<F>(),
-            family: PhantomData,
         }
     }
 
@@ -40,9 +33,7 @@ impl<F: Family> OpenJob<F> {
     pub fn open(card: &[u32], label: u32) -> Result<OpenJob<F>, CardError>
         ensures { Opened F.meaning card.now label result }
     {
-        if card.len() != WORDS {
-            return Err(CardError);
-        }
+        let card = card.as_array::<WORDS>().ok_or(CardError)?;
         Ok(Self::start(card, label))
     }
 
@@ -51,7 +42,7 @@ impl<F: Family> OpenJob<F> {
         requires { self.old.length + length piece.now ≤ 8388608 }
         ensures { (card : List ℕ) (job : Job) → Holds F.meaning card job self.old → Holds F.meaning card (fed job piece.now) self.new }
     {
-        self.stream.feed::<F>(&self.card, piece);
+        self.stream.feed(piece);
         self.length += piece.len();
     }
 
@@ -68,16 +59,11 @@ impl<F: Family> OpenJob<F> {
     }
 
     // The tag of the root list, once the document is all in.
-    fn root(&self) -> u64
-        ensures { (card : List ℕ) (job : Job) → Holds F.meaning card job self.now → result ≡ root_tag F.meaning card job }
+    fn root(self) -> u64
+        ensures { (card : List ℕ) (job : Job) → Holds F.meaning card job self → result ≡ root_tag F.meaning card job }
     {
-        let mut stream = self.stream;
-        let top = stream.close::<F>(&self.card);
-        let words = root_words(top, self.length as u32, self.label);
-        match F::tag(&self.card[ROOT..], &words) {
-            Ok(root) => root,
-            Err(_) => unreachable(),
-        }
+        let words = root_words(self.stream.close(), self.length as u32, self.label);
+        F::tag(&self.root_keys, &words).unwrap()
     }
 
     // Ends the document.
@@ -85,9 +71,9 @@ impl<F: Family> OpenJob<F> {
         ensures { (card : List ℕ) (job : Job) → Holds F.meaning card job self → Closed F.meaning card job result }
     {
         ClosedJob {
-            root: self.root(),
             label: self.label,
             length: self.length,
+            root: self.root(),
             family: PhantomData,
         }
     }

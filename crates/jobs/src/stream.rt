@@ -1,116 +1,100 @@
 // A document as it comes in, in pieces.
-ghost use Rattle.std.specs.Prelude.{◌≡◌, ℕ, ◌+◌, ◌*◌, ◌<◌, ◌≤◌, List, [], ◌++◌, length, take};
+ghost use Rattle.std.specs.Prelude.{◌≡◌, ℕ, ◌+◌, ◌<◌, ◌≤◌, List, [], ◌++◌, length};
+ghost use Rattle.arrayvec.specs.ArrayVec.{array_vec_len};
 ghost use Rattle.jobs.specs.Roots.{top_tag};
 ghost use Rattle.jobs.specs.Holding.{StreamHolds};
 
-use crate::block::{full_tag, last_tag};
+use crate::block::{last_tag, whole_tag};
 use crate::level::{push_all, top};
 use crate::state::{Level, Stream};
+use arrayvec::ArrayVec;
 use families::Family;
 
 // The bytes of a block of level 1.
 const BLOCK: usize = 128;
 
-// Where the words of level 2 begin on the card.
-const SECOND: usize = 32;
-
-impl Stream {
-    // A stream that has taken nothing.
-    pub(crate) fn empty<F: Family>() -> Stream
-        ensures filled { result.filled ≡ 0 }
-        ensures holds { (card : List ℕ) → StreamHolds F.meaning card result [] }
+impl<F: Family> Stream<F> {
+    // A stream that has taken nothing, on the five stretches of a card.
+    pub(crate) fn new(card: &[u32; 164]) -> Stream<F>
+        ensures block { result.block.items ≡ [] }
+        ensures holds { StreamHolds F.meaning card.now result [] }
     {
+        let (stretches, _root) = card.as_chunks::<32>();
         Stream {
-            block: [0; 128],
-            filled: 0,
+            keys: stretches[0],
+            block: ArrayVec::new(),
             levels: [
-                Level::empty(),
-                Level::empty(),
-                Level::empty(),
-                Level::empty(),
+                Level::new(stretches[1]),
+                Level::new(stretches[2]),
+                Level::new(stretches[3]),
+                Level::new(stretches[4]),
             ],
         }
     }
 
     // Tags the full block that waits.
-    fn flush<F: Family>(&mut self, card: &[u32])
-        requires { (self.old.filled ≡ 128) × (160 ≤ length card.now) }
-        ensures filled { self.new.filled ≡ 0 }
-        ensures holds { (doc : List ℕ) → StreamHolds F.meaning card.now self.old doc → StreamHolds F.meaning card.now self.new doc }
+    fn flush(&mut self)
+        requires { array_vec_len self.old.block ≡ 128 }
+        ensures block { self.new.block.items ≡ [] }
+        ensures holds { (card doc : List ℕ) → StreamHolds F.meaning card self.old doc → StreamHolds F.meaning card self.new doc }
     {
-        let tag = full_tag::<F>(card, &self.block);
-        push_all::<F>(&mut self.levels, &card[SECOND..], tag);
-        self.filled = 0;
+        let tag = last_tag::<F>(&self.keys, self.block.as_slice());
+        push_all(&mut self.levels, tag);
+        self.block.clear();
     }
 
     // Tags a whole block where it lies, while none waits.
-    fn pass<F: Family>(&mut self, card: &[u32], bytes: &[u8])
-        requires { (self.old.filled ≡ 0) × ((length bytes.now ≡ 128) × (160 ≤ length card.now)) }
-        ensures filled { self.new.filled ≡ 0 }
-        ensures holds { (doc : List ℕ) → StreamHolds F.meaning card.now self.old doc → StreamHolds F.meaning card.now self.new (doc ++ bytes.now) }
+    fn pass(&mut self, block: &[u8; 128])
+        requires { self.old.block.items ≡ [] }
+        ensures block { self.new.block.items ≡ [] }
+        ensures holds { (card doc : List ℕ) → StreamHolds F.meaning card self.old doc → StreamHolds F.meaning card self.new (doc ++ block.now) }
     {
-        let tag = full_tag::<F>(card, bytes);
-        push_all::<F>(&mut self.levels, &card[SECOND..], tag);
+        let tag = whole_tag::<F>(&self.keys, block);
+        push_all(&mut self.levels, tag);
     }
 
     // Copies bytes for which there is room behind those that wait.
-    fn keep<F: Family>(&mut self, part: &[u8])
-        requires { self.old.filled + length part.now ≤ 128 }
-        ensures filled { self.new.filled ≡ self.old.filled + length part.now }
+    fn keep(&mut self, part: &[u8])
+        requires { array_vec_len self.old.block + length part.now ≤ 128 }
+        ensures block { self.new.block.items ≡ self.old.block.items ++ part.now }
         ensures holds { (card doc : List ℕ) → StreamHolds F.meaning card self.old doc → StreamHolds F.meaning card self.new (doc ++ part.now) }
     {
-        let end = self.filled + part.len();
-        self.block[self.filled..end].copy_from_slice(part);
-        self.filled = end;
+        self.block.try_extend_from_slice(part).unwrap();
     }
 
-    // Makes sure that there is room for a byte.
-    fn make_room<F: Family>(&mut self, card: &[u32])
-        requires { 160 ≤ length card.now }
-        ensures room { self.new.filled < 128 }
-        ensures holds { (doc : List ℕ) → StreamHolds F.meaning card.now self.old doc → StreamHolds F.meaning card.now self.new doc }
+    // Tags all whole blocks that a byte follows, while none waits, and keeps the bytes behind them.
+    fn take_blocks(&mut self, bytes: &[u8])
+        requires none { self.old.block.items ≡ [] }
+        requires some { 0 < length bytes.now }
+        ensures waits { 0 < array_vec_len self.new.block }
+        ensures holds { (card doc : List ℕ) → StreamHolds F.meaning card self.old doc → StreamHolds F.meaning card self.new (doc ++ bytes.now) }
     {
-        if self.filled == BLOCK {
-            self.flush::<F>(card);
+        let (whole, rest) = bytes.split_at((bytes.len() - 1) / BLOCK * BLOCK);
+        for block in whole.as_chunks::<BLOCK>().0 {
+            self.pass(block);
         }
+        self.keep(rest);
     }
 
-    // Takes some of the bytes that come, and says how many. A block is tagged only once a byte follows it.
-    fn take_some<F: Family>(&mut self, card: &[u32], bytes: &[u8]) -> usize
-        requires { (self.old.filled < 128) × ((0 < length bytes.now) × (160 ≤ length card.now)) }
-        ensures some { (0 < result) × (result ≤ length bytes.now) }
-        ensures waits { result ≡ length bytes.now → 0 < self.new.filled }
-        ensures holds { (doc : List ℕ) → StreamHolds F.meaning card.now self.old doc → StreamHolds F.meaning card.now self.new (doc ++ take result bytes.now) }
+    // Takes a piece of the document. A block is tagged only once a byte follows it.
+    pub(crate) fn feed(&mut self, piece: &[u8])
+        ensures waits { 0 < array_vec_len self.old.block + length piece.now → 0 < array_vec_len self.new.block }
+        ensures holds { (card doc : List ℕ) → StreamHolds F.meaning card self.old doc → StreamHolds F.meaning card self.new (doc ++ piece.now) }
     {
-        if self.filled == 0 && bytes.len() > BLOCK {
-            self.pass::<F>(card, &bytes[0..BLOCK]);
-            return BLOCK;
-        }
-        let n = bytes.len().min(BLOCK - self.filled);
-        self.keep::<F>(&bytes[0..n]);
-        n
-    }
-
-    // Takes a piece of the document.
-    pub(crate) fn feed<F: Family>(&mut self, card: &[u32], piece: &[u8])
-        requires { 160 ≤ length card.now }
-        ensures waits { 0 < self.old.filled + length piece.now → 0 < self.new.filled }
-        ensures holds { (doc : List ℕ) → StreamHolds F.meaning card.now self.old doc → StreamHolds F.meaning card.now self.new (doc ++ piece.now) }
-    {
-        let mut at = 0;
-        while at < piece.len() {
-            self.make_room::<F>(card);
-            at += self.take_some::<F>(card, &piece[at..]);
+        let room = self.block.remaining_capacity();
+        let (front, rest) = piece.split_at(room.min(piece.len()));
+        self.keep(front);
+        if !rest.is_empty() {
+            self.flush();
+            self.take_blocks(rest);
         }
     }
 
     // The tag at the top of the levels, once the document is all in.
-    pub(crate) fn close<F: Family>(&mut self, card: &[u32]) -> u64
-        requires { 160 ≤ length card.now }
-        ensures { (doc : List ℕ) → StreamHolds F.meaning card.now self.old doc → (0 < length doc → 0 < self.old.filled) → length doc ≤ 8388608 → result ≡ top_tag F.meaning card.now doc }
+    pub(crate) fn close(mut self) -> u64
+        ensures { (card doc : List ℕ) → StreamHolds F.meaning card self doc → (0 < length doc → 0 < array_vec_len self.block) → length doc ≤ 8388608 → result ≡ top_tag F.meaning card doc }
     {
-        let tag = last_tag::<F>(card, &self.block[0..self.filled]);
-        push_all::<F>(&mut self.levels, &card[SECOND..], tag);
-        top::<F>(&mut self.levels, &card[SECOND..])
+        let tag = last_tag::<F>(&self.keys, self.block.as_slice());
+        top(&mut self.levels, tag)
     }
 }

@@ -1,9 +1,7 @@
-use Rattle.std.proofs.Common.{refl, arith}
+use Rattle.std.proofs.Common.{length, refl, sym, ap, ◌∙◌}
 use Rattle.jobs.proofs.Streams.{flushed}
 use Rattle.jobs.proofs.state.Stream.flush.Goals as goal
 
-pub returns : goal.returns
-returns g c = record {
-  filled = refl;
-  holds = flushed g.F.Family.meaning c.args.card.now c.args.self.now _ c.full_tag-tag.result c.push_all.ensures c.requires.0 (omega arith) refl c.full_tag-tag.ensures;
-}
+pub returns-clause-holds : goal.returns-clause-holds
+returns-clause-holds g c = λ card doc h.
+    flushed g.F.Family.meaning c.args.self.now _ c.as_slice.result.now c.last_tag-tag.result refl c.clear.ensures (ap length c.as_slice.ensures.value ∙ c.requires) c.last_tag-tag.ensures c.push_all.ensures card doc h (sym c.as_slice.ensures.value)
