@@ -5,7 +5,8 @@ use Rattle.jobs.specs.Reading.{Bytes}
 use Rattle.jobs.specs.Roots.{Job}
 use Rattle.std.proofs.lemmas.List.{drop_at, append-nil}
 use Rattle.std.specs.List.{AllByRecursion}
-use Rattle.line.specs.Choices.{chosen, meaning_of}
+use Rattle.families.specs.Names.{meaning_of}
+use Rattle.line.specs.Choices.{chosen}
 use Rattle.line.specs.Commands.{Order, Placed, End, Reading, encoded, width, first, read_from, read_at, behind, nothing}
 use Rattle.line.specs.Commands.End.{all_read, stopped}
 use Rattle.line.specs.Laws.{Fitting, encoded_all, placed_from, AllRead, AllWritten, LinesExtend}
@@ -13,7 +14,7 @@ use Rattle.line.specs.Lines.{at_first}
 use Rattle.line.specs.Sessions.{State, obeyed, replies, finished, answers_to, answers_before}
 use Rattle.line.specs.declared.answer.Answer.{Answer}
 use Rattle.line.specs.declared.answer.Answer.TheVariants.{Refused}
-use Rattle.line.specs.declared.choice.FamilyName.{FamilyName}
+use Rattle.families.specs.declared.name.FamilyName.{FamilyName}
 use Rattle.line.specs.declared.refusal.LineFault.{LineFault}
 use Rattle.line.specs.declared.refusal.Refusal.TheVariants as refusal
 use Rattle.line.specs.declared.refusal.SessionFault.TheVariants as session

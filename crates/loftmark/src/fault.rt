@@ -1,4 +1,5 @@
 // Why nothing was marked.
+use families::UnknownFamily;
 use jobs::{CardError, TooLong};
 use std::{fmt, io};
 
@@ -20,6 +21,12 @@ pub enum Fault {
 impl From<io::Error> for Fault {
     fn from(_error: io::Error) -> Fault {
         Fault::Io
+    }
+}
+
+impl From<UnknownFamily> for Fault {
+    fn from(_error: UnknownFamily) -> Fault {
+        Fault::UnknownFamily
     }
 }
 
