@@ -3,7 +3,7 @@ use Rattle.std.proofs.Common.{◌≡◌, ℕ, suc, ◌^◌, ◌<◌, true, cond,
 use Rattle.jobs.specs.Reading.{Bytes}
 use Rattle.std.proofs.ByRecursion.{All-take, All-drop}
 use Rattle.std.proofs.lemmas.List.{take_at}
-use Rattle.std.proofs.lemmas.Bool.{le-leb, eqb-true}
+use Rattle.std.proofs.lemmas.Bool.{cond-true, le-leb, eqb-true}
 use Rattle.line.specs.Bytes.{bytes_of, number_of}
 use Rattle.line.specs.Commands.{Order, encoded, width, begun, operands}
 use Rattle.line.specs.Commands.Order.{choose, open_job, feed_byte, feed_block, seal_job, strike_pad, check_job}
@@ -20,9 +20,7 @@ operands_front :
     length xs ≡ n →
     operands n (xs ++ more) make ≡ Ok (make xs)
 operands_front n xs more make long =
-    let s = length-append xs more in
-    ap (λ t. cond t (Ok (make (take n (xs ++ more)))) (Err CutOff)) (le-leb n (length (xs ++ more)) (omega arith))
-    ∙ ap (λ ys. Ok (make ys)) (take_at xs more n long)
+    cond-true _ _ _ (le-leb n (length (xs ++ more)) (omega (arith, length-append xs more))) ∙ ap (λ ys. Ok (make ys)) (take_at xs more n long)
 
 number_written : (n v : ℕ) (more : List ℕ) (make : ℕ → Order) → v < 256 ^ n → operands n (bytes_of n v ++ more) (λ xs. make (number_of xs)) ≡ Ok (make v)
 number_written n v more make h =
