@@ -1,5 +1,5 @@
 -- Commands in bytes: written and read again, and read and written again.
-use Rattle.std.proofs.Common.{◌≡◌, ℕ, suc, ◌^◌, ◌<◌, true, cond, eqb, List, [], ◌∷◌, ◌++◌, length, take, drop, Ok, Err, Result, sym, refl, ap, ◌∙◌, subst, arith, length-append, length-drop, take-append-drop, length-take}
+use Rattle.std.proofs.Common.{◌≡◌, ℕ, suc, ◌^◌, ◌<◌, true, eqb, List, [], ◌∷◌, ◌++◌, length, take, drop, Ok, Result, sym, refl, ap, ◌∙◌, subst, arith, length-append, length-drop, take-append-drop, length-take}
 use Rattle.jobs.specs.Reading.{Bytes}
 use Rattle.std.proofs.ByRecursion.{All-take, All-drop}
 use Rattle.std.proofs.lemmas.List.{take_at}
@@ -9,7 +9,6 @@ use Rattle.line.specs.Commands.{Order, encoded, width, begun, operands}
 use Rattle.line.specs.Commands.Order.{choose, open_job, feed_byte, feed_block, seal_job, strike_pad, check_job}
 use Rattle.line.specs.Laws.{Fitting, WrittenRead, ReadWritten}
 use Rattle.line.specs.declared.refusal.LineFault.{LineFault}
-use Rattle.line.specs.declared.refusal.LineFault.TheVariants.{CutOff}
 use Rattle.line.proofs.Digits.{length-bytes, number_bytes, number_at}
 use Rattle.line.proofs.Lines.{by_cases, operands_read}
 
