@@ -5,4 +5,5 @@ pub mod Places
 pub mod Pairs
 pub mod Primes
 pub mod Dots
+pub mod Names
 pub mod Laws

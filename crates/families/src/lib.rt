@@ -5,6 +5,7 @@
 mod family;
 mod mmh;
 mod mmh_star;
+mod name;
 mod nh;
 mod nhs;
 mod pairs;
@@ -14,6 +15,7 @@ mod width;
 pub use family::Family;
 pub use mmh::Mmh;
 pub use mmh_star::MmhStar;
+pub use name::{FamilyName, UnknownFamily};
 pub use nh::Nh;
 pub use nhs::Nhs;
 pub use prime::prime_modulus;

@@ -1,32 +1,54 @@
--- Numbers as bytes, place by place.
-use Rattle.std.proofs.Common.{◌≡◌, ℕ, zero, suc, ◌+◌, ◌*◌, ◌/◌, ◌%◌, ◌≤◌, List, [], ◌∷◌, length, get_or, drop, refl, arith}
+-- Numbers as bytes, by the definitions here and by the library's.
+use Rattle.std.proofs.Common.{◌≡◌, ℕ, zero, suc, ◌+◌, ◌*◌, ◌/◌, ◌%◌, ◌^◌, ◌<◌, List, [], ◌∷◌, length, refl, sym, ap, ◌∙◌, subst, pow-suc, div-one, arith}
+use Rattle.std.specs.Int.{byte_at, bytes_low_first}
 use native.Mathlib.Nat.{div-div-eq-div-mul}
+use Rattle.jobs.specs.Reading.{Bytes}
 use Rattle.line.specs.Bytes.{bytes_of, number_of}
 
--- one byte more
-pub number_from : (bs : List ℕ) (k : ℕ) → number_of (drop k bs) ≡ get_or bs k 0 + 256 * number_of (drop (suc k) bs)
-number_from [] zero = omega arith
-number_from [] (suc k) = omega arith
-number_from (b ∷ bs) zero = refl
-number_from (b ∷ bs) (suc k) = number_from bs k
+one_byte : (i v : ℕ) → byte_at i v ≡ v / 256 ^ i % 256
+one_byte zero v = ap (λ x. x % 256) (sym (div-one v))
+one_byte (suc i) v = refl
 
--- no byte is left
-pub number_end : (bs : List ℕ) (k : ℕ) → length bs ≤ k → number_of (drop k bs) ≡ 0
-number_end [] zero h = refl
-number_end [] (suc k) h = refl
-number_end (b ∷ bs) zero h = absurd (omega arith)
-number_end (b ∷ bs) (suc k) h = number_end bs k (omega arith)
+bytes_from : (i n v : ℕ) → bytes_low_first i n v ≡ bytes_of n (v / 256 ^ i)
+bytes_from i zero v = refl
+bytes_from i (suc n) v =
+    let next : v / 256 ^ suc i ≡ v / 256 ^ i / 256 = ap (λ x. v / x) (pow-suc 256 i) ∙ sym (div-div-eq-div-mul v (256 ^ i) 256) in
+    ap (λ x. x ∷ bytes_low_first (suc i) n v) (one_byte i v) ∙ ap (λ xs. v / 256 ^ i % 256 ∷ xs) (bytes_from (suc i) n v ∙ ap (bytes_of n) next)
 
-pub number4 : (bs : List ℕ) → length bs ≡ 4 → number_of bs ≡ get_or bs 0 0 + get_or bs 1 0 * 256 + get_or bs 2 0 * 65536 + get_or bs 3 0 * 16777216
-number4 bs h = omega (arith, number_from bs 0, number_from bs 1, number_from bs 2, number_from bs 3, number_end bs 4 (omega arith))
+-- n bytes, as `to_le_bytes` gives them
+pub bytes_low : (n v : ℕ) → bytes_low_first 0 n v ≡ bytes_of n v
+bytes_low n v = bytes_from 0 n v ∙ ap (bytes_of n) (div-one v)
 
-pub number8 :
-    (bs : List ℕ) →
-    length bs ≡ 8 →
-    number_of bs ≡ get_or bs 0 0 + get_or bs 1 0 * 256 + get_or bs 2 0 * 65536 + get_or bs 3 0 * 16777216 + get_or bs 4 0 * 4294967296
-    + get_or bs 5 0 * 1099511627776 + get_or bs 6 0 * 281474976710656 + get_or bs 7 0 * 72057594037927936
-number8 bs h =
-    omega (arith, number_from bs 0, number_from bs 1, number_from bs 2, number_from bs 3, number_from bs 4, number_from bs 5, number_from bs 6, number_from bs 7, number_end bs 8 (omega arith))
+pub length-bytes : (n v : ℕ) → length (bytes_of n v) ≡ n
+length-bytes zero v = refl
+length-bytes (suc n) v = ap suc (length-bytes n (v / 256))
 
-pub bytes4 : (v : ℕ) → v % 256 ∷ v / 256 % 256 ∷ v / 65536 % 256 ∷ v / 16777216 % 256 ∷ [] ≡ bytes_of 4 v
-bytes4 v = rw (div-div-eq-div-mul v 256 256, div-div-eq-div-mul v 65536 256)
+-- written and read again
+pub number_bytes : (n v : ℕ) → v < 256 ^ n → number_of (bytes_of n v) ≡ v
+number_bytes zero v h = omega (arith, h)
+number_bytes (suc n) v h =
+    let p : 256 ^ suc n ≡ 256 ^ n * 256 = pow-suc 256 n in
+    let below : v / 256 < 256 ^ n = omega arith in
+    let rest = number_bytes n (v / 256) below in
+    omega arith
+
+bytes_number : (bs : List ℕ) → Bytes bs → bytes_of (length bs) (number_of bs) ≡ bs
+bytes_number [] h = refl
+bytes_number (b ∷ bs) h =
+    let low : (b + 256 * number_of bs) % 256 ≡ b = omega (arith, h.0) in
+    let high : (b + 256 * number_of bs) / 256 ≡ number_of bs = omega (arith, h.0) in
+    ap (λ x. x ∷ bytes_of (length bs) ((b + 256 * number_of bs) / 256)) low
+    ∙ ap (λ x. b ∷ bytes_of (length bs) x) high
+    ∙ ap (λ xs. b ∷ xs) (bytes_number bs h.1)
+
+number_below : (bs : List ℕ) → Bytes bs → number_of bs < 256 ^ length bs
+number_below [] h = omega arith
+number_below (b ∷ bs) h =
+    let p : 256 ^ suc (length bs) ≡ 256 ^ length bs * 256 = pow-suc 256 (length bs) in
+    let rest = number_below bs h.1 in
+    omega (arith, h.0)
+
+-- the number that n bytes hold, written in n bytes
+pub number_at : (n : ℕ) (bs : List ℕ) → Bytes bs → length bs ≡ n → (number_of bs < 256 ^ n) × (bytes_of n (number_of bs) ≡ bs)
+number_at n bs h long =
+    (subst (λ k. number_of bs < 256 ^ k) long (number_below bs h), ap (λ k. bytes_of k (number_of bs)) (sym long) ∙ bytes_number bs h)

@@ -1,4 +1,5 @@
 -- What a line grants is a run of the two books.
+use Rattle.std.proofs.ByRecursion.{All-drop}
 use Rattle.std.proofs.Common.{◌≡◌, ℕ, zero, suc, ◌+◌, ◌^◌, ◌<◌, Bool, true, false, cond, leb, List, [], ◌∷◌, ◌++◌, length, drop, Some, None, Ok, Err, Option, Result, sym, refl, ap, ◌∙◌, subst, arith, length-append}
 use Rattle.families.specs.Meanings.{Meaning}
 use Rattle.jobs.specs.Jobs.{feed_answer}
@@ -27,7 +28,7 @@ use Rattle.line.specs.declared.answer.Answer.TheVariants.{Sealed, Struck, Accept
 use Rattle.line.specs.declared.refusal.LineFault.{LineFault}
 use Rattle.line.specs.declared.refusal.Refusal.TheVariants as refusal
 use Rattle.line.specs.declared.refusal.BookFault.TheVariants as book
-use Rattle.line.proofs.Codes.{read_written, bytes_back}
+use Rattle.line.proofs.Codes.{read_written}
 use Rattle.line.proofs.Joins.{joined-append}
 use Rattle.line.proofs.Lines.{read_by, read_some}
 
@@ -45,7 +46,7 @@ fit_by :
     Fit (read_by r n place (byte ∷ bs)).commands
 fit_by n place byte bs again bytes (Err f) e = tt
 fit_by n place byte bs again bytes (Ok o) e =
-    ((read_written (byte ∷ bs) bytes o e).0, again (place + width o) (drop (width o) (byte ∷ bs)) (bytes_back (width o) (byte ∷ bs) bytes))
+    ((read_written (byte ∷ bs) bytes o e).0, again (place + width o) (drop (width o) (byte ∷ bs)) (All-drop (λ b. b < 256) (width o) (byte ∷ bs) bytes))
 
 none_fit : (n place : ℕ) → Fit (read_from n place []).commands
 unfolding read_from

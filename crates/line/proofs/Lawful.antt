@@ -11,14 +11,15 @@ use Rattle.books.specs.Law as law
 use Rattle.books.specs.Runs.{Books, Event, Run}
 use Rattle.books.specs.Runs.Event.{take, seal, strike, call_in, check}
 use Rattle.books.specs.declared.fate.Fate.TheVariants.{Unspent, Sealed}
-use Rattle.line.specs.Choices.{chosen, meaning_of}
+use Rattle.families.specs.Names.{meaning_of}
+use Rattle.line.specs.Choices.{chosen}
 use Rattle.line.specs.Commands.{Placed, End, read_at}
 use Rattle.line.specs.Grants.{calls_to, calls_in, chosen_in, granted_by, grants, sealing, accepting, LawBy, LinesLawful}
 use Rattle.line.specs.Lines.{line_answers, at_first}
 use Rattle.line.specs.Sessions.{State, answers_before}
 use Rattle.line.specs.declared.answer.Answer.{Answer}
 use Rattle.line.specs.declared.answer.Answer.TheVariants as answer
-use Rattle.line.specs.declared.choice.FamilyName.{FamilyName}
+use Rattle.families.specs.declared.name.FamilyName.{FamilyName}
 use Rattle.line.specs.declared.refusal.Refusal.{Refusal}
 use Rattle.line.proofs.Granted.{Fit, JobProper, commands_fit, to_run, to_same, end_same}
 use Rattle.line.proofs.Joins.{joined_joined}

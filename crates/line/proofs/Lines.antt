@@ -1,27 +1,12 @@
 -- The commands of a line, place by place.
-use Rattle.std.proofs.Common.{◌≡◌, ℕ, zero, suc, ◌+◌, ◌-◌, ◌<◌, ◌≤◌, Bool, true, false, cond, eqb, leb, List, [], ◌∷◌, length, get_or, take, drop, Ok, Err, Result, sym, refl, ap, ◌∙◌, add-one, arith, length-drop, drop-cons}
-use Rattle.std.proofs.lemmas.Slice.{between_to_end}
-use Rattle.std.proofs.lemmas.List.{drop_all, drop-drop}
+use Rattle.std.proofs.Common.{◌≡◌, ℕ, zero, suc, ◌+◌, ◌<◌, ◌≤◌, Bool, true, false, cond, eqb, leb, List, [], ◌∷◌, length, take, drop, Ok, Err, Result, sym, refl, ap, ◌∙◌, arith, length-drop, length-take}
+use Rattle.std.proofs.lemmas.List.{drop_all, drop-drop, length-take-le}
 use Rattle.std.proofs.lemmas.Bool.{leb-true}
 use Rattle.line.specs.Bytes.{number_of}
 use Rattle.line.specs.Commands.{Order, Reading, first, begun, operands, width, read_from, read_at, behind, nothing}
 use Rattle.line.specs.Commands.Order.{choose, open_job, feed_byte, feed_block, seal_job, strike_pad, check_job}
 use Rattle.line.specs.Commands.End.{all_read, stopped}
 use Rattle.line.specs.declared.refusal.LineFault.{LineFault}
-use Rattle.line.specs.declared.refusal.LineFault.TheVariants.{CutOff, NoSuchCommand}
-
--- the command at a place within the line, as the slice behind the place has it
-pub first_at :
-    (line : List ℕ) (at : ℕ) →
-    at < length line →
-    first (drop at line) ≡ begun (get_or line at 0) (take (length line - (at + 1)) (drop (at + 1) line))
-first_at line at h =
-    ap first (drop-cons line at 0 h)
-    ∙ ap (λ (xs : List ℕ). begun (get_or line at 0) xs)
-    (ap (λ n. drop n line) (sym (add-one at)) ∙ sym (between_to_end line (at + 1) (length line) (omega arith)))
-
-pub first_past : (line : List ℕ) (at : ℕ) → length line ≤ at → first (drop at line) ≡ Err CutOff
-first_past line at h = ap first (drop_all at line h)
 
 -- ---- every command has a byte, and no more than there are
 
@@ -34,53 +19,49 @@ width_some seal_job = omega arith
 width_some strike_pad = omega arith
 width_some (check_job number tag) = omega arith
 
-ok_err : {B E : Type 0} (b : B) (e : E) → ◌≡◌ {A = Result B E} (Ok b) (Err e) → ⊥
-ok_err b e h = let z : ◌≡◌ {A = ℕ} 0 1 = cc in omega arith
+-- by whether a test came out
+pub by_cases : {X : Type 0} (t : Bool) {x y r : X} (P : Type 0) → (t ≡ true → x ≡ r → P) → (t ≡ false → y ≡ r → P) → cond t x y ≡ r → P
+by_cases true P f g e = f refl e
+by_cases false P f g e = g refl e
 
-operands_by :
-    (t : Bool) (n : ℕ) (bs : List ℕ) (make : List ℕ → Order) (o : Order) →
-    leb n (length bs) ≡ t →
-    ((xs : List ℕ) → width (make xs) ≡ suc n) →
-    cond t (Ok (make (take n bs))) (Err CutOff) ≡ Ok o →
-    width o ≤ suc (length bs)
-operands_by true n bs make o e w h =
-    let within = leb-true n (length bs) e in
-    let same : make (take n bs) ≡ o = cc in
-    let a = w (take n bs) in
-    let b = ap width same in
-    omega arith
-operands_by false n bs make o e w h = absurd (ok_err o CutOff (sym h))
+-- operands that were read: there are as many
+pub operands_read :
+    (n : ℕ) (bs : List ℕ) (make : List ℕ → Order) (o : Order) →
+    operands n bs make ≡ Ok o →
+    (length (take n bs) ≡ n) × (make (take n bs) ≡ o)
+operands_read n bs make o h =
+    by_cases (leb n (length bs)) ((length (take n bs) ≡ n) × (make (take n bs) ≡ o))
+    (λ t e. (length-take-le n bs (leb-true n (length bs) t), cc))
+    (λ t e. cc)
+    h
 
 operands_within :
     (n : ℕ) (bs : List ℕ) (make : List ℕ → Order) (o : Order) →
     ((xs : List ℕ) → width (make xs) ≡ suc n) →
     operands n bs make ≡ Ok o →
     width o ≤ suc (length bs)
-operands_within n bs make o w h = operands_by (leb n (length bs)) n bs make o refl w h
-
--- by whether a test came out
-pub by_test : {X : Type 0} (t : Bool) {x y r : X} (P : Type 0) → (x ≡ r → P) → (y ≡ r → P) → cond t x y ≡ r → P
-by_test true P f g e = f e
-by_test false P f g e = g e
+operands_within n bs make o w h =
+    let r = operands_read n bs make o h in
+    omega (arith, w (take n bs), ap width r.1, length-take n bs)
 
 one_byte : (o p : Order) (bs : List ℕ) → width o ≡ 1 → ◌≡◌ {A = Result Order LineFault} (Ok o) (Ok p) → width p ≤ suc (length bs)
-one_byte o p bs w h = let same : o ≡ p = cc in let e = ap width same in omega arith
+one_byte o p bs w h = let same : o ≡ p = cc in omega (arith, ap width same)
 
 begun_within : (byte : ℕ) (bs : List ℕ) (o : Order) → begun byte bs ≡ Ok o → width o ≤ suc (length bs)
 begun_within byte bs o h =
     let P : Type 0 = width o ≤ suc (length bs) in
-    by_test (eqb byte 0x46) P (operands_within 1 bs (λ xs. choose (number_of xs)) o (λ xs. refl))
-    (by_test (eqb byte 0x4f) P (operands_within 4 bs (λ xs. open_job (number_of xs)) o (λ xs. refl))
-    (by_test (eqb byte 0x42) P (operands_within 1 bs (λ xs. feed_byte (number_of xs)) o (λ xs. refl))
-    (by_test (eqb byte 0x51) P (operands_within 16 bs feed_block o (λ xs. refl))
-    (by_test (eqb byte 0x5a) P (one_byte seal_job o bs refl)
-    (by_test (eqb byte 0x58) P (one_byte strike_pad o bs refl)
-    (by_test (eqb byte 0x43) P
-    (operands_within 12 bs (λ xs. check_job (number_of (take 4 xs)) (number_of (drop 4 xs))) o (λ xs. refl))
-    (λ e. absurd (ok_err o NoSuchCommand (sym e))))))))) h
+    by_cases (eqb byte 0x46) P (λ _. operands_within 1 bs (λ xs. choose (number_of xs)) o (λ xs. refl))
+    (λ _. by_cases (eqb byte 0x4f) P (λ _. operands_within 4 bs (λ xs. open_job (number_of xs)) o (λ xs. refl))
+    (λ _. by_cases (eqb byte 0x42) P (λ _. operands_within 1 bs (λ xs. feed_byte (number_of xs)) o (λ xs. refl))
+    (λ _. by_cases (eqb byte 0x51) P (λ _. operands_within 16 bs feed_block o (λ xs. refl))
+    (λ _. by_cases (eqb byte 0x5a) P (λ _. one_byte seal_job o bs refl)
+    (λ _. by_cases (eqb byte 0x58) P (λ _. one_byte strike_pad o bs refl)
+    (λ _. by_cases (eqb byte 0x43) P
+    (λ _. operands_within 12 bs (λ xs. check_job (number_of (take 4 xs)) (number_of (drop 4 xs))) o (λ xs. refl))
+    (λ _ e. cc))))))) h
 
 pub first_within : (bs : List ℕ) (o : Order) → first bs ≡ Ok o → width o ≤ length bs
-first_within [] o h = absurd (ok_err o CutOff (sym h))
+first_within [] o h = cc
 first_within (byte ∷ bs) o h = begun_within byte bs o h
 
 -- ---- reading on
@@ -121,7 +102,7 @@ read_enough (suc n) (suc k) place (byte ∷ bs) h h' =
     ∙ sym (read_some k place byte bs)
 
 pub next_of : (place : ℕ) (bs : List ℕ) (o : Order) → first bs ≡ Ok o → read_from (length bs) place bs ≡ behind (record { place = place; order = o }) (read_from (length (drop (width o) bs)) (place + width o) (drop (width o) bs))
-next_of place [] o h = absurd (ok_err o CutOff (sym h))
+next_of place [] o h = cc
 next_of place (byte ∷ bs) o h =
     let s = shorter o byte bs in
     read_some (length bs) place byte bs ∙ ap (λ r. read_by r (length bs) place (byte ∷ bs)) h

@@ -1,12 +1,7 @@
 -- Bytes that are written into a buffer, one part behind the other.
 use Rattle.std.proofs.Common.{◌≡◌, ℕ, ◌+◌, ◌≤◌, List, [], ◌++◌, length, take, drop, sym, ap, ◌∙◌, subst, append_assoc, add-zero, arith, length-append}
 use Rattle.std.proofs.lemmas.List.{take-append-drop, take_at, drop_at, drop-drop, length-take-le}
-use borrow.Rule.Slice.PartMut.{put_mid}
 use Rattle.line.specs.Buffers.{put, Left}
-
--- a write to a part of the buffer
-pub put_part : (at k : ℕ) (buffer ys bytes : List ℕ) → k ≡ length bytes → ys ≡ bytes → put_mid at k buffer ys ≡ put at bytes buffer
-put_part at k buffer ys bytes e f = rw (e, f) (ap (λ (zs : List ℕ). take at buffer ++ (bytes ++ zs)) (drop-drop (length bytes) at buffer))
 
 pub put_nothing : (at : ℕ) (buffer : List ℕ) → put at [] buffer ≡ buffer
 put_nothing at buffer = ap (λ n. take at buffer ++ drop n buffer) (add-zero at) ∙ take-append-drop at buffer

@@ -7,7 +7,8 @@ use Rattle.books.specs.declared.pad.Pad.{Pad}
 use Rattle.books.specs.declared.refusals.TakeError.{TakeError}
 use Rattle.line.proofs.Joins.{joined-append}
 use Rattle.line.specs.Buffers.{answers_bytes}
-use Rattle.line.specs.Choices.{chosen, meaning_of}
+use Rattle.families.specs.Names.{meaning_of}
+use Rattle.line.specs.Choices.{chosen}
 use Rattle.line.specs.Commands.{Order, Reading, first, width, read_at, behind}
 use Rattle.line.specs.Commands.Order.{choose, open_job, feed_byte, feed_block, seal_job, strike_pad, check_job}
 use Rattle.line.specs.Lines.{answers_from, unchosen_from}
@@ -15,7 +16,7 @@ use Rattle.line.specs.Numbers.{answer_bytes}
 use Rattle.line.specs.Sessions.{State, Reply, obeyed, replies, finished, answers_to, answers_before, seals_by, seals_with, strikes_with, with_job}
 use Rattle.line.specs.declared.answer.Answer.{Answer}
 use Rattle.line.specs.declared.answer.Answer.TheVariants.{Sealed, Struck, Accepted, Refused}
-use Rattle.line.specs.declared.choice.FamilyName.{FamilyName}
+use Rattle.families.specs.declared.name.FamilyName.{FamilyName}
 use Rattle.line.specs.declared.refusal.LineFault.{LineFault}
 use Rattle.line.specs.declared.refusal.Refusal.TheVariants as refusal
 use Rattle.line.specs.declared.refusal.SessionFault.TheVariants as session

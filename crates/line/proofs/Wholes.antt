@@ -1,11 +1,13 @@
 -- Whole lines: lists of commands in bytes, and how the answers go on.
-use Rattle.std.proofs.Common.{◌≡◌, ℕ, zero, suc, ◌+◌, ◌≤◌, ◌⊎◌, List, [], ◌∷◌, ◌++◌, map, length, drop, Some, None, Ok, Err, Option, Result, sym, refl, ap, ◌∙◌, inl, inr, append_assoc, add-zero, zero-add, arith, length-append, take-append-drop}
+use Rattle.std.proofs.ByRecursion.{All-drop}
+use Rattle.std.proofs.Common.{◌≡◌, ℕ, zero, suc, ◌+◌, ◌<◌, ◌≤◌, ◌⊎◌, List, [], ◌∷◌, ◌++◌, map, length, drop, Some, None, Ok, Err, Option, Result, sym, refl, ap, ◌∙◌, inl, inr, append_assoc, add-zero, zero-add, arith, length-append, take-append-drop}
 use Rattle.families.specs.Meanings.{Meaning}
 use Rattle.jobs.specs.Reading.{Bytes}
 use Rattle.jobs.specs.Roots.{Job}
 use Rattle.std.proofs.lemmas.List.{drop_at, append-nil}
 use Rattle.std.specs.List.{AllByRecursion}
-use Rattle.line.specs.Choices.{chosen, meaning_of}
+use Rattle.families.specs.Names.{meaning_of}
+use Rattle.line.specs.Choices.{chosen}
 use Rattle.line.specs.Commands.{Order, Placed, End, Reading, encoded, width, first, read_from, read_at, behind, nothing}
 use Rattle.line.specs.Commands.End.{all_read, stopped}
 use Rattle.line.specs.Laws.{Fitting, encoded_all, placed_from, AllRead, AllWritten, LinesExtend}
@@ -13,11 +15,11 @@ use Rattle.line.specs.Lines.{at_first}
 use Rattle.line.specs.Sessions.{State, obeyed, replies, finished, answers_to, answers_before}
 use Rattle.line.specs.declared.answer.Answer.{Answer}
 use Rattle.line.specs.declared.answer.Answer.TheVariants.{Refused}
-use Rattle.line.specs.declared.choice.FamilyName.{FamilyName}
+use Rattle.families.specs.declared.name.FamilyName.{FamilyName}
 use Rattle.line.specs.declared.refusal.LineFault.{LineFault}
 use Rattle.line.specs.declared.refusal.Refusal.TheVariants as refusal
 use Rattle.line.specs.declared.refusal.SessionFault.TheVariants as session
-use Rattle.line.proofs.Codes.{written_read, read_written, width-encoded, bytes_back}
+use Rattle.line.proofs.Codes.{written_read, read_written, width-encoded}
 use Rattle.line.proofs.Lines.{read_by, read_some, next_of, shorter}
 
 -- ---- a list of commands that was written
@@ -83,7 +85,7 @@ written_by n place byte bs again bytes l (Ok o) e h =
     let s = shorter o byte bs in
     let line : List ℕ = byte ∷ bs in
     ap (λ xs. encoded o ++ xs)
-    (again (place + width o) (drop (width o) line) (bytes_back (width o) line bytes) (omega arith) h)
+    (again (place + width o) (drop (width o) line) (All-drop (λ b. b < 256) (width o) line bytes) (omega arith) h)
     ∙ ap (λ xs. xs ++ drop (width o) line) (sym (read_written line bytes o e).1)
     ∙ take-append-drop (width o) line
 

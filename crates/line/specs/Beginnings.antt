@@ -1,7 +1,7 @@
 -- Where the first commands of a line lead.
 use Rattle.std.specs.Prelude.{◌≡◌, ℕ, ◌*◌, ◌≤◌, List, length}
 use Rattle.line.specs.Buffers.{put, Left}
-use Rattle.line.specs.Choices.{meaning_of}
+use Rattle.families.specs.Names.{meaning_of}
 use Rattle.line.specs.Lines.{answers_from, unchosen_from}
 use Rattle.line.specs.Sessions.{State}
 use Rattle.line.specs.declared.begin.Beginning.{Beginning}

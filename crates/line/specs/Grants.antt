@@ -12,14 +12,15 @@ use Rattle.books.specs.Runs.Event.{take, seal, strike, call_in, check}
 use Rattle.books.specs.Table.{checked}
 use Rattle.books.specs.declared.pad.Pad.{Pad}
 use Rattle.books.specs.declared.refusals.TakeError.{TakeError}
-use Rattle.line.specs.Choices.{chosen, meaning_of}
+use Rattle.families.specs.Names.{meaning_of}
+use Rattle.line.specs.Choices.{chosen}
 use Rattle.line.specs.Commands.{Order, Placed, read_at}
 use Rattle.line.specs.Commands.Order.{choose, open_job, feed_byte, feed_block, seal_job, strike_pad, check_job}
 use Rattle.line.specs.Lines.{line_answers, at_first}
 use Rattle.line.specs.Sessions.{State, obeyed}
 use Rattle.line.specs.declared.answer.Answer.{Answer}
 use Rattle.line.specs.declared.answer.Answer.TheVariants.{Sealed, Struck, Accepted, Refused}
-use Rattle.line.specs.declared.choice.FamilyName.{FamilyName}
+use Rattle.families.specs.declared.name.FamilyName.{FamilyName}
 use Rattle.std.specs.List.{flat_map}
 
 -- ---- the calls on the books

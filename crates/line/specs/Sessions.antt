@@ -9,7 +9,8 @@ use Rattle.books.specs.Table.{Table, checked}
 use Rattle.books.specs.Runs.{Books}
 use Rattle.books.specs.declared.pad.Pad.{Pad}
 use Rattle.books.specs.declared.refusals.TakeError.{TakeError}
-use Rattle.line.specs.Choices.{meaning_of, chosen}
+use Rattle.families.specs.Names.{meaning_of}
+use Rattle.line.specs.Choices.{chosen}
 use Rattle.line.specs.Commands.{Order, Placed, End}
 use Rattle.line.specs.Commands.Order.{choose, open_job, feed_byte, feed_block, seal_job, strike_pad, check_job}
 use Rattle.line.specs.Commands.End.{all_read, stopped}

@@ -1,16 +1,16 @@
 // What a line answers.
-ghost use Rattle.std.specs.Prelude.{◌∷◌};
+ghost use Rattle.std.specs.Prelude.{◌≡◌, ◌+◌, ◌≤◌, ◌∷◌, ◌++◌, length};
 ghost use Rattle.line.specs.Bytes.{bytes_of};
+ghost use Rattle.arrayvec.specs.ArrayVec.{array_vec_len};
 ghost use Rattle.line.specs.Numbers.{answer_bytes};
-ghost use Rattle.line.specs.Encodings.{Encodes};
 
-use crate::number::{u32_bytes, u64_bytes};
 use crate::refusal::Refusal;
+use arrayvec::ArrayVec;
 
 // The bytes of the longest answer.
-pub(crate) const LONGEST: usize = 13;
+const LONGEST: usize = 13;
 
-#[derive(Clone, Copy)]
+#[derive(Clone, Copy, PartialEq, Eq, Debug)]
 pub enum Answer {
     Sealed { number: u32, tag: u64 },
     Struck { number: u32 },
@@ -20,49 +20,45 @@ pub enum Answer {
     Refused { refusal: Refusal, place: u32 },
 }
 
-// The bytes of an answer: the first `count` of these, and zeros behind them.
-#[derive(Clone, Copy)]
-pub struct AnswerBytes {
-    pub bytes: [u8; LONGEST],
-    pub count: usize,
+// Puts bytes behind those that are there.
+fn append(bytes: &mut ArrayVec<u8, LONGEST>, more: &[u8])
+    requires { array_vec_len bytes.old + length more.now ≤ LONGEST }
+    ensures { bytes.new.items ≡ bytes.old.items ++ more.now }
+{
+    bytes.try_extend_from_slice(more).unwrap()
 }
 
 // A byte that says what was granted, and a number.
-fn granted(byte: u8, number: u32) -> AnswerBytes
-    ensures { Encodes (byte ∷ bytes_of 4 number) result }
+fn granted(byte: u8, number: u32) -> ArrayVec<u8, LONGEST>
+    ensures { result.items ≡ byte ∷ bytes_of 4 number }
 {
-    let [a, b, c, d] = u32_bytes(number);
-    AnswerBytes {
-        bytes: [byte, a, b, c, d, 0, 0, 0, 0, 0, 0, 0, 0],
-        count: 5,
-    }
+    let mut bytes = ArrayVec::new();
+    bytes.push(byte);
+    append(&mut bytes, &number.to_le_bytes());
+    bytes
 }
 
-fn sealed(number: u32, tag: u64) -> AnswerBytes
-    ensures { Encodes (answer_bytes (Answer.Sealed number tag)) result }
+fn sealed(number: u32, tag: u64) -> ArrayVec<u8, LONGEST>
+    ensures { result.items ≡ answer_bytes (Answer.Sealed number tag) }
 {
-    let [a, b, c, d] = u32_bytes(number);
-    let [s, t, u, v, w, x, y, z] = u64_bytes(tag);
-    AnswerBytes {
-        bytes: [0x53, a, b, c, d, s, t, u, v, w, x, y, z],
-        count: 13,
-    }
+    let mut bytes = granted(0x53, number);
+    append(&mut bytes, &tag.to_le_bytes());
+    bytes
 }
 
-fn refused(refusal: Refusal, place: u32) -> AnswerBytes
-    ensures { Encodes (answer_bytes (Answer.Refused refusal place)) result }
+fn refused(refusal: Refusal, place: u32) -> ArrayVec<u8, LONGEST>
+    ensures { result.items ≡ answer_bytes (Answer.Refused refusal place) }
 {
     let (layer, number) = refusal.code();
-    let [a, b, c, d] = u32_bytes(place);
-    AnswerBytes {
-        bytes: [0x52, layer, number, a, b, c, d, 0, 0, 0, 0, 0, 0],
-        count: 7,
-    }
+    let mut bytes = ArrayVec::new();
+    append(&mut bytes, &[0x52, layer, number]);
+    append(&mut bytes, &place.to_le_bytes());
+    bytes
 }
 
 impl Answer {
-    pub fn encode(self) -> AnswerBytes
-        ensures { Encodes (answer_bytes self) result }
+    pub fn encode(self) -> ArrayVec<u8, LONGEST>
+        ensures { result.items ≡ answer_bytes self }
     {
         match self {
             Answer::Sealed { number, tag } => sealed(number, tag),

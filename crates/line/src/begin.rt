@@ -2,10 +2,11 @@
 ghost use Rattle.std.specs.Prelude.{◌+◌, ◌*◌, ◌≤◌, length};
 ghost use Rattle.line.specs.Beginnings.{Begun};
 
-use crate::choice::{FamilyName, chosen_family};
+use crate::choice::chosen_family;
 use crate::output::respond;
 use crate::reader::read_command;
 use crate::refusal::{Refusal, SessionFault};
+use families::FamilyName;
 
 // Where the first commands of a line lead.
 #[derive(Clone, Copy)]

@@ -2,9 +2,9 @@
 ghost use Rattle.std.specs.Prelude.{◌≡◌};
 ghost use Rattle.line.specs.Commands.{order_of, width};
 
-#[derive(Clone, Copy)]
+#[derive(Clone, Copy, PartialEq, Eq, Debug)]
 pub enum Command<'a> {
-    // Chooses a family by its number.
+    // Chooses a family by the number on the line: a number of no family is a command too, which the session refuses.
     Choose { family: u8 },
     // Opens a job.
     Open { label: u32 },
@@ -26,13 +26,13 @@ impl Command<'_> {
         ensures { result ≡ width (order_of self.entry) }
     {
         match self {
-            Command::Choose { family: _ } => 2,
-            Command::Open { label: _ } => 5,
-            Command::Byte { byte: _ } => 2,
-            Command::Block { bytes: _, place: _ } => 17,
+            Command::Choose { .. } => 2,
+            Command::Open { .. } => 5,
+            Command::Byte { .. } => 2,
+            Command::Block { .. } => 17,
             Command::Seal => 1,
             Command::Strike => 1,
-            Command::Check { number: _, tag: _ } => 13,
+            Command::Check { .. } => 13,
         }
     }
 }

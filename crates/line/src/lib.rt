@@ -7,7 +7,6 @@ mod choice;
 mod command;
 mod fault;
 mod laws;
-mod number;
 mod output;
 mod reader;
 mod refusal;
@@ -15,7 +14,7 @@ mod run;
 mod serve;
 mod session;
 
-pub use answer::{Answer, AnswerBytes};
+pub use answer::Answer;
 pub use command::Command;
 pub use laws::line_laws;
 pub use reader::read_command;

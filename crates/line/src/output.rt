@@ -15,8 +15,8 @@ fn write_answer(answers: &mut [u8], used: usize, answer: Answer) -> usize
     ensures buffer { answers.new ≡ put used (answer_bytes answer) answers.old }
 {
     let encoding = answer.encode();
-    let end = used + encoding.count;
-    answers[used..end].copy_from_slice(&encoding.bytes[0..encoding.count]);
+    let end = used + encoding.len();
+    answers[used..end].copy_from_slice(encoding.as_slice());
     end
 }
 

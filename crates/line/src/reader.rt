@@ -1,30 +1,16 @@
 // Reading commands from a line.
-ghost use Rattle.std.specs.Prelude.{◌≡◌, ◌+◌, ◌<◌, length, take, drop};
-ghost use Rattle.line.specs.Bytes.{number_of};
+ghost use Rattle.std.specs.Prelude.{◌≡◌, ◌+◌, drop};
 ghost use Rattle.line.specs.Commands.{first, begun, order_of, operands, InPlace};
 ghost use Rattle.std.specs.Result.{result_map_both};
 
 use crate::command::Command;
-use crate::number::{read_u32, read_u64};
 use crate::refusal::LineFault;
 
-// The first `count` of some bytes.
-fn front(bytes: &[u8], count: usize) -> Result<&[u8], LineFault>
-    ensures { result_map_both (λ s. s.now) (λ e. e) result ≡ operands count bytes.now (λ xs. xs) }
+// The first bytes, as many as the array has.
+fn front<const N: usize>(bytes: &[u8]) -> Result<&[u8; N], LineFault>
+    ensures { result_map_both (λ s. s.now) (λ e. e) result ≡ operands N bytes.now (λ xs. xs) }
 {
-    if count <= bytes.len() {
-        Ok(&bytes[0..count])
-    } else {
-        Err(LineFault::CutOff)
-    }
-}
-
-// The operands of a check.
-fn number_and_tag(bytes: &[u8]) -> (u32, u64)
-    requires { length bytes.now ≡ 12 }
-    ensures { result ≡ (number_of (take 4 bytes.now), number_of (drop 4 bytes.now)) }
-{
-    (read_u32(&bytes[0..4]), read_u64(&bytes[4..]))
+    bytes.first_chunk().ok_or(LineFault::CutOff)
 }
 
 // The command that a byte begins, with the rest of the line, which lies at `place`.
@@ -34,28 +20,27 @@ fn begin(byte: u8, rest: &[u8], place: usize) -> Result<Command<'_>, LineFault>
 {
     match byte {
         0x46 => {
-            let bytes = front(rest, 1)?;
-            Ok(Command::Choose { family: bytes[0] })
+            let &[family] = front::<1>(rest)?;
+            Ok(Command::Choose { family })
         }
         0x4f => {
-            let bytes = front(rest, 4)?;
-            Ok(Command::Open {
-                label: read_u32(bytes),
-            })
+            let label = u32::from_le_bytes(*front::<4>(rest)?);
+            Ok(Command::Open { label })
         }
         0x42 => {
-            let bytes = front(rest, 1)?;
-            Ok(Command::Byte { byte: bytes[0] })
+            let &[byte] = front::<1>(rest)?;
+            Ok(Command::Byte { byte })
         }
         0x51 => {
-            let bytes = front(rest, 16)?;
+            let bytes = front::<16>(rest)?;
             Ok(Command::Block { bytes, place })
         }
         0x5a => Ok(Command::Seal),
         0x58 => Ok(Command::Strike),
         0x43 => {
-            let bytes = front(rest, 12)?;
-            let (number, tag) = number_and_tag(bytes);
+            let &[a, b, c, d, s, t, u, v, w, x, y, z] = front::<12>(rest)?;
+            let number = u32::from_le_bytes([a, b, c, d]);
+            let tag = u64::from_le_bytes([s, t, u, v, w, x, y, z]);
             Ok(Command::Check { number, tag })
         }
         _ => Err(LineFault::NoSuchCommand),
@@ -67,9 +52,7 @@ pub fn read_command(line: &[u8], at: usize) -> Result<Command<'_>, LineFault>
     ensures command { result_map_both order_of (λ e. e) result ≡ first (drop at line.now) }
     ensures place { InPlace (at + 1) result }
 {
-    if at < line.len() {
-        begin(line[at], &line[at + 1..], at + 1)
-    } else {
-        Err(LineFault::CutOff)
-    }
+    let bytes = line.get(at..).ok_or(LineFault::CutOff)?;
+    let (&byte, rest) = bytes.split_first().ok_or(LineFault::CutOff)?;
+    begin(byte, rest, at + 1)
 }

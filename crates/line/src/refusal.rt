@@ -61,7 +61,7 @@ pub enum Refusal {
 }
 
 impl Refusal {
-    // The refusal's layer, and its number.
+    // The refusal's layer and its number, which stand as bytes in an answer.
     pub fn code(self) -> (u8, u8)
         ensures { result ≡ code_of self }
     {

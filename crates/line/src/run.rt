@@ -7,12 +7,11 @@ ghost use Rattle.std.specs.Result.{result_map_both};
 ghost use Rattle.books.specs.Views.{office_view, table_view};
 
 use crate::begin::{Beginning, until_choice};
-use crate::choice::FamilyName;
 use crate::refusal::{LineFault, Refusal};
 use crate::serve::serve;
 use crate::session::Session;
 use books::{OfficeBook, PadCountError, TableBook, open_books};
-use families::{Mmh, MmhStar, Nh, Nhs};
+use families::{FamilyName, Mmh, MmhStar, Nh, Nhs};
 use jobs::read_card;
 use pads::{PadSource, Sheet, read_sheet};
 

@@ -1,4 +1,5 @@
 // Why nothing was marked.
+use families::UnknownFamily;
 use jobs::{CardError, TooLong};
 use std::io;
 use thiserror::Error;
@@ -8,7 +9,7 @@ pub enum Fault {
     #[error("usage: loftmark FAMILY LABEL, with the document on standard input")]
     Usage,
     #[error("no such family; the families are NH, NHS, MMH* (or MMHSTAR) and MMH")]
-    UnknownFamily,
+    UnknownFamily(#[from] UnknownFamily),
     #[error("the label is not a whole number from 0 to 4294967295")]
     BadLabel,
     #[error("cannot read card.bin in this folder")]

@@ -4,8 +4,7 @@ ghost use Rattle.jobs.specs.Roots.{Job};
 ghost use Rattle.jobs.specs.Jobs.{Holds, Closed, fresh, fed};
 
 use crate::fault::Fault;
-use crate::order::FamilyName;
-use families::Family;
+use families::{Family, FamilyName};
 use jobs::{ClosedJob, OpenJob, read_card};
 use std::io::Read;
 use std::{fs, io};

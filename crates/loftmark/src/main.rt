@@ -5,10 +5,10 @@ mod fault;
 mod input;
 mod order;
 
-use families::{Family, Mmh, MmhStar, Nh, Nhs};
+use families::{Family, FamilyName, Mmh, MmhStar, Nh, Nhs};
 use fault::Fault;
 use input::{mark_input, read_card_file};
-use order::{FamilyName, read_order};
+use order::read_order;
 use std::process::ExitCode;
 
 fn mark<F: Family>(rt: &HostRuntime, name: FamilyName, label: u32) -> Result<(), Fault> {

@@ -23,7 +23,7 @@ fn output(heap: Global, card: &[u8], sheet: &[u8], line: &[u8]) -> Result<Vec<u8
         Ok(count) => Vec::from_slice(heap, &answers[0..count]),
         Err(refusal) => {
             let encoding = Answer::Refused { refusal, place: 0 }.encode();
-            Vec::from_slice(heap, &encoding.bytes[0..encoding.count])
+            Vec::from_slice(heap, encoding.as_slice())
         }
     }
 }
