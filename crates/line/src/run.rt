@@ -89,10 +89,7 @@ fn answer_line<S: PadSource + Drop>(
 fn lend(places: &[u64], count: usize) -> Result<Sheet<'_>, PadCountError>
     ensures { result_map_both (λ s. s.pads.now) (λ e. e) result ≡ lent places.now count }
 {
-    if count > places.len() {
-        return Err(PadCountError);
-    }
-    Ok(Sheet::new(&places[0..count]))
+    places.get(0..count).map(Sheet::new).ok_or(PadCountError)
 }
 
 // Runs a line over a key card and a sheet of pads, both as bytes, and writes the answers to the front of the buffer. The

@@ -40,21 +40,16 @@ impl<F: Family, S: PadSource> Session<F, S> {
         if self.job.is_some() {
             return Err(Refusal::Session(SessionFault::Job));
         }
-        let job = OpenJob::<F>::open(&self.card, label)?;
-        self.job = Some(job);
+        self.job = Some(OpenJob::<F>::open(&self.card, label)?);
         Ok(None)
     }
 
     fn feed(&mut self, piece: &[u8]) -> Result<Option<Answer>, Refusal>
         ensures { Does S.pads F.meaning self.old self.new result (feeds piece.now) }
     {
-        match self.job.as_mut() {
-            None => Err(Refusal::Session(SessionFault::Job)),
-            Some(job) => {
-                job.feed(piece)?;
-                Ok(None)
-            }
-        }
+        let job = self.job.as_mut().ok_or(SessionFault::Job)?;
+        job.feed(piece)?;
+        Ok(None)
     }
 
     // Ends the open job.
@@ -62,10 +57,8 @@ impl<F: Family, S: PadSource> Session<F, S> {
         ensures rest { self.new ≡ idle self.old }
         ensures answer { (job : Option Job) → Stands F.meaning self.old job → Ends F.meaning self.old.card job result }
     {
-        match self.job.take() {
-            None => Err(SessionFault::Job),
-            Some(job) => Ok(job.close()),
-        }
+        let job = self.job.take().ok_or(SessionFault::Job)?;
+        Ok(job.close())
     }
 
     fn seal(&mut self) -> Result<Option<Answer>, Refusal>
@@ -98,10 +91,10 @@ impl<F: Family, S: PadSource> Session<F, S> {
         ensures { Does S.pads F.meaning self.old self.new result (obeyed F.meaning self.old.card (order_of command.entry)) }
     {
         match command {
-            Command::Choose { family: _ } => Err(Refusal::Session(SessionFault::Choice)),
+            Command::Choose { .. } => Err(Refusal::Session(SessionFault::Choice)),
             Command::Open { label } => self.open(label),
             Command::Byte { byte } => self.feed(&[byte]),
-            Command::Block { bytes, place: _ } => self.feed(bytes),
+            Command::Block { bytes, .. } => self.feed(bytes),
             Command::Seal => self.seal(),
             Command::Strike => self.strike(),
             Command::Check { number, tag } => self.check(number, tag),
