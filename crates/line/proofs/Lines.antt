@@ -6,6 +6,7 @@ use Rattle.std.proofs.lemmas.Bool.{leb-true}
 use Rattle.line.specs.Bytes.{number_of}
 use Rattle.line.specs.Commands.{Order, Reading, first, begun, operands, width, read_from, read_at, behind, nothing}
 use Rattle.line.specs.Commands.Order.{choose, open_job, feed_byte, feed_block, seal_job, strike_pad, check_job}
+use Rattle.line.specs.Steps.{past}
 use Rattle.line.specs.Commands.End.{all_read, stopped}
 use Rattle.line.specs.declared.refusal.LineFault.{LineFault}
 use Rattle.line.specs.declared.refusal.LineFault.TheVariants.{CutOff, NoSuchCommand}
@@ -82,6 +83,11 @@ begun_within byte bs o h =
 pub first_within : (bs : List ℕ) (o : Order) → first bs ≡ Ok o → width o ≤ length bs
 first_within [] o h = absurd (ok_err o CutOff (sym h))
 first_within (byte ∷ bs) o h = begun_within byte bs o h
+
+-- a command ends behind its place, and a fault at the end of the line
+pub past_more : (x : Result Order LineFault) (at long : ℕ) → at < long → at < past x at long
+past_more (Ok o) at long h = let w = width_some o in omega arith
+past_more (Err f) at long h = h
 
 -- ---- reading on
 

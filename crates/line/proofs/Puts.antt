@@ -1,8 +1,11 @@
 -- Bytes that are written into a buffer, one part behind the other.
-use Rattle.std.proofs.Common.{◌≡◌, ℕ, ◌+◌, ◌≤◌, List, [], ◌++◌, length, take, drop, sym, ap, ◌∙◌, subst, append_assoc, add-zero, arith, length-append}
+use Rattle.std.proofs.Common.{◌≡◌, ℕ, ◌+◌, ◌≤◌, List, [], ◌++◌, length, take, drop, refl, sym, ap, ◌∙◌, subst, append_assoc, add-zero, arith, length-append}
 use Rattle.std.proofs.lemmas.List.{take-append-drop, take_at, drop_at, drop-drop, length-take-le}
 use borrow.Rule.Slice.PartMut.{put_mid}
-use Rattle.line.specs.Buffers.{put, Left}
+use Rattle.std.proofs.lemmas.Grind.{common_steps}
+use Rattle.line.specs.Buffers.{put}
+use Rattle.line.specs.Outputs.{Left, Writes}
+use Rattle.line.specs.declared.output.Output.{Output}
 
 -- a write to a part of the buffer
 pub put_part : (at k : ℕ) (buffer ys bytes : List ℕ) → k ≡ length bytes → ys ≡ bytes → put_mid at k buffer ys ≡ put at bytes buffer
@@ -49,31 +52,45 @@ module _ (at : ℕ) (front back buffer : List ℕ) (room : at + length front ≤
       ∙ append_assoc (take at buffer) front (back ++ drop (at + length (front ++ back)) buffer)
       ∙ ap (λ (xs : List ℕ). take at buffer ++ xs) (sym (append_assoc front back (drop (at + length (front ++ back)) buffer)))
 
-module _ {whole held rest buffer : List ℕ} {from used : ℕ} (left : Left whole held from rest buffer used) where
-  -- the rest, in other words
-  pub left_same : (back : List ℕ) → rest ≡ back → Left whole held from back buffer used
-  left_same back e = subst (λ (xs : List ℕ). Left whole held from xs buffer used) e left
+-- a write keeps the buffer's length
+pub length-put : (at : ℕ) (bytes buffer : List ℕ) → at + length bytes ≤ length buffer → length (put at bytes buffer) ≡ length buffer
+length-put at bytes buffer room = grind (arith, common_steps)
 
-  -- a part more was written, so that the buffer is `after` and `n` bytes are used
+pub writes_long : {bytes : List ℕ} {before after : Output} → before.used + length bytes ≤ length before.answers.now → Writes bytes before after → length after.answers.now ≡ length before.answers.now
+writes_long {bytes} {before} room w = ap length w.buffer ∙ length-put before.used bytes before.answers.now room
+
+module _ {whole rest : List ℕ} {before now : Output} (left : Left whole rest before now) where
+  -- the rest, in other words
+  pub left_same : (back : List ℕ) → rest ≡ back → Left whole back before now
+  left_same back e = subst (λ (xs : List ℕ). Left whole xs before now) e left
+
+  -- a part more was written
   pub left_next :
-      (part back after : List ℕ) (n : ℕ) →
+      {after : Output} (part back : List ℕ) →
       rest ≡ part ++ back →
-      used + length part ≤ length buffer →
-      n ≡ used + length part →
-      after ≡ put used part buffer →
-      Left whole held from back after n
-  left_next part back after n e room end is =
+      now.used + length part ≤ length now.answers.now →
+      Writes part now after →
+      Left whole back before after
+  left_next {after} part back e room w =
       record {
-        long = let s = ap length e ∙ length-append part back in let h = left.long in omega arith;
-        same =
-            ap (λ k. put k back after) end ∙ ap (put (used + length part) back) is ∙ put_both used part back buffer room
-            ∙ ap (λ (xs : List ℕ). put used xs buffer) (sym e)
-            ∙ left.same;
+        same_buffer = w.same_buffer ∙ left.same_buffer;
+        end = let s = ap length e ∙ length-append part back in let h = left.end in omega (arith, w.end);
+        buffer =
+            ap (λ k. put k back after.answers.now) w.end ∙ ap (put (now.used + length part) back) w.buffer ∙ put_both now.used part back now.answers.now room
+            ∙ ap (λ (xs : List ℕ). put now.used xs now.answers.now) (sym e)
+            ∙ left.buffer;
       }
 
-  -- the last part was written
-  pub left_end : (part : List ℕ) (n : ℕ) → rest ≡ part → n ≡ used + length part → n ≡ from + length whole
-  left_end part n e end = let s = ap length e in let h = left.long in omega arith
+  -- the rest was written
+  pub left_end : {after : Output} (part : List ℕ) → rest ≡ part → Writes part now after → Writes whole before after
+  left_end part e w =
+      record {
+        same_buffer = w.same_buffer ∙ left.same_buffer;
+        end = let s = ap length e in let h = left.end in omega (arith, w.end);
+        buffer = w.buffer ∙ ap (λ (xs : List ℕ). put now.used xs now.answers.now) (sym e) ∙ left.buffer;
+      }
 
-  pub left_buffer : (part after : List ℕ) → rest ≡ part → after ≡ put used part buffer → after ≡ put from whole held
-  left_buffer part after e is = is ∙ ap (λ (xs : List ℕ). put used xs buffer) (sym e) ∙ left.same
+  -- nothing is left
+  pub left_nothing : rest ≡ [] → Writes whole before now
+  left_nothing e =
+      left_end [] e (record { same_buffer = refl; end = sym (add-zero now.used); buffer = sym (put_nothing now.used now.answers.now) })

@@ -13,25 +13,26 @@ use families::Family;
 use jobs::{ClosedJob, OpenJob};
 use pads::PadSource;
 
+// The key card, and the books of the two ends.
+#[derive(Drop)]
+pub(crate) struct Desk<S: PadSource> {
+    pub(crate) card: [u32; 164],
+    pub(crate) office: OfficeBook<S>,
+    pub(crate) table: TableBook<S>,
+}
+
 #[derive(Drop)]
 pub(crate) struct Session<F: Family, S: PadSource> {
-    card: [u32; 164],
-    office: OfficeBook<S>,
-    table: TableBook<S>,
+    desk: Desk<S>,
     job: Option<OpenJob<F>>,
 }
 
 impl<F: Family, S: PadSource> Session<F, S> {
     // No job is open yet.
-    pub(crate) fn new(card: [u32; 164], office: OfficeBook<S>, table: TableBook<S>) -> Session<F, S>
-        ensures { result ≡ record { card = card; office = office; table = table; job = Nothing } }
+    pub(crate) fn new(desk: Desk<S>) -> Session<F, S>
+        ensures { result ≡ record { desk = desk; job = Nothing } }
     {
-        Session {
-            card,
-            office,
-            table,
-            job: None,
-        }
+        Session { desk, job: None }
     }
 
     fn open(&mut self, label: u32) -> Result<Option<Answer>, Refusal>
@@ -40,7 +41,7 @@ impl<F: Family, S: PadSource> Session<F, S> {
         if self.job.is_some() {
             return Err(Refusal::Session(SessionFault::Job));
         }
-        self.job = Some(OpenJob::<F>::open(&self.card, label)?);
+        self.job = Some(OpenJob::<F>::open(&self.desk.card, label)?);
         Ok(None)
     }
 
@@ -55,40 +56,40 @@ impl<F: Family, S: PadSource> Session<F, S> {
     // Ends the open job.
     fn close(&mut self) -> Result<ClosedJob<F>, SessionFault>
         ensures rest { self.new ≡ idle self.old }
-        ensures answer { (job : Option Job) → Stands F.meaning self.old job → Ends F.meaning self.old.card job result }
+        ensures answer { (job : Option Job) → Stands F.meaning self.old job → Ends F.meaning self.old.desk.card job result }
     {
         let job = self.job.take().ok_or(SessionFault::Job)?;
         Ok(job.close())
     }
 
     fn seal(&mut self) -> Result<Option<Answer>, Refusal>
-        ensures { Does S.pads F.meaning self.old self.new result (seals F.meaning self.old.card) }
+        ensures { Does S.pads F.meaning self.old self.new result (seals F.meaning self.old.desk.card) }
     {
         let job = self.close()?;
-        let pad = self.office.take()?;
-        let (number, tag) = self.office.seal(pad, &job)?;
+        let pad = self.desk.office.take()?;
+        let (number, tag) = self.desk.office.seal(pad, &job)?;
         Ok(Some(Answer::Sealed { number, tag }))
     }
 
     fn check(&mut self, number: u32, tag: u64) -> Result<Option<Answer>, Refusal>
-        ensures { Does S.pads F.meaning self.old self.new result (checks F.meaning self.old.card number tag) }
+        ensures { Does S.pads F.meaning self.old self.new result (checks F.meaning self.old.desk.card number tag) }
     {
         let job = self.close()?;
-        self.table.check(&job, number, tag)?;
+        self.desk.table.check(&job, number, tag)?;
         Ok(Some(Answer::Accepted { number }))
     }
 
     fn strike(&mut self) -> Result<Option<Answer>, Refusal>
         ensures { Does S.pads F.meaning self.old self.new result strikes }
     {
-        let pad = self.office.take()?;
+        let pad = self.desk.office.take()?;
         let number = pad.number();
-        self.office.strike(pad)?;
+        self.desk.office.strike(pad)?;
         Ok(Some(Answer::Struck { number }))
     }
 
     pub(crate) fn obey(&mut self, command: Command) -> Result<Option<Answer>, Refusal>
-        ensures { Does S.pads F.meaning self.old self.new result (obeyed F.meaning self.old.card (order_of command.entry)) }
+        ensures { Does S.pads F.meaning self.old self.new result (obeyed F.meaning self.old.desk.card (order_of command.entry)) }
     {
         match command {
             Command::Choose { .. } => Err(Refusal::Session(SessionFault::Choice)),
