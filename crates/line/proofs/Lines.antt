@@ -9,7 +9,7 @@ use Rattle.line.specs.Commands.Order.{choose, open_job, feed_byte, feed_block, s
 use Rattle.line.specs.Steps.{past}
 use Rattle.line.specs.Commands.End.{all_read, stopped}
 use Rattle.line.specs.declared.refusal.LineFault.{LineFault}
-use Rattle.line.specs.declared.refusal.LineFault.TheVariants.{CutOff, NoSuchCommand}
+use Rattle.line.specs.declared.refusal.LineFault.TheVariants.{CutOff}
 
 -- the command at a place within the line, as the slice behind the place has it
 pub first_at :
@@ -35,9 +35,6 @@ width_some seal_job = omega arith
 width_some strike_pad = omega arith
 width_some (check_job number tag) = omega arith
 
-ok_err : {B E : Type 0} (b : B) (e : E) → ◌≡◌ {A = Result B E} (Ok b) (Err e) → ⊥
-ok_err b e h = let z : ◌≡◌ {A = ℕ} 0 1 = cc in omega arith
-
 operands_by :
     (t : Bool) (n : ℕ) (bs : List ℕ) (make : List ℕ → Order) (o : Order) →
     leb n (length bs) ≡ t →
@@ -50,7 +47,7 @@ operands_by true n bs make o e w h =
     let a = w (take n bs) in
     let b = ap width same in
     omega arith
-operands_by false n bs make o e w h = absurd (ok_err o CutOff (sym h))
+operands_by false n bs make o e w h = cc
 
 operands_within :
     (n : ℕ) (bs : List ℕ) (make : List ℕ → Order) (o : Order) →
@@ -78,10 +75,10 @@ begun_within byte bs o h =
     (by_test (eqb byte 0x58) P (one_byte strike_pad o bs refl)
     (by_test (eqb byte 0x43) P
     (operands_within 12 bs (λ xs. check_job (number_of (take 4 xs)) (number_of (drop 4 xs))) o (λ xs. refl))
-    (λ e. absurd (ok_err o NoSuchCommand (sym e))))))))) h
+    (λ e. cc))))))) h
 
 pub first_within : (bs : List ℕ) (o : Order) → first bs ≡ Ok o → width o ≤ length bs
-first_within [] o h = absurd (ok_err o CutOff (sym h))
+first_within [] o h = cc
 first_within (byte ∷ bs) o h = begun_within byte bs o h
 
 -- a command ends behind its place, and a fault at the end of the line
@@ -127,7 +124,7 @@ read_enough (suc n) (suc k) place (byte ∷ bs) h h' =
     ∙ sym (read_some k place byte bs)
 
 pub next_of : (place : ℕ) (bs : List ℕ) (o : Order) → first bs ≡ Ok o → read_from (length bs) place bs ≡ behind (record { place = place; order = o }) (read_from (length (drop (width o) bs)) (place + width o) (drop (width o) bs))
-next_of place [] o h = absurd (ok_err o CutOff (sym h))
+next_of place [] o h = cc
 next_of place (byte ∷ bs) o h =
     let s = shorter o byte bs in
     read_some (length bs) place byte bs ∙ ap (λ r. read_by r (length bs) place (byte ∷ bs)) h

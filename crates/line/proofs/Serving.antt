@@ -18,7 +18,7 @@ use Rattle.line.specs.declared.refusal.Refusal.TheVariants as refusal
 use Rattle.line.specs.declared.session.Desk.{Desk}
 use Rattle.line.specs.declared.session.Session.{Session}
 use Rattle.line.proofs.Puts.{left_next, left_end, writes_long}
-use Rattle.line.proofs.Turns.{from_next, from_stop, from_end, room, owes, reply_short, end_short}
+use Rattle.line.proofs.Turns.{from_next, from_stop, from_end, room, owes, end_short}
 
 module _ {F S : Type 0} {G : Ghosts F} (m : Meaning) (pads : S → List ℕ) where
   -- The session stands for a job, and what is left of the line answers the rest of what it answers from the start. Behind
@@ -88,14 +88,9 @@ module _
     {F S : Type 0} {G : Ghosts F} {m : Meaning} {pads : S → List ℕ} {desk : Desk S} {session : Session F S G} {commands rest : Commands} {held output : Output}
     (on : Serves m pads desk session commands rest held output)
   where
-    -- the answer to a command fits
-    pub fits_on :
-        {after : Commands} {given : ℕ × Result Command LineFault} (reply : Reply) →
-        Step rest after given →
-        output.used + length (answers_bytes (replies given.0 reply)) ≤ length output.answers.now
-    fits_on {given = given} reply step =
-        let h = reply_short given.0 reply in
-        omega (arith, on.room, step.place, step.inside)
+    -- any answer to what stands at a place fits
+    pub room_on : {after : Commands} {given : ℕ × Result Command LineFault} → Step rest after given → output.used + 13 ≤ length output.answers.now
+    room_on step = omega (arith, on.room, step.place, step.inside)
 
     -- a fault is the last
     pub serves_stop :

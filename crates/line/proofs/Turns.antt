@@ -5,7 +5,7 @@ use Rattle.jobs.specs.Roots.{Job, root_tag}
 use Rattle.books.specs.Office.{Office, taken}
 use Rattle.books.specs.declared.pad.Pad.{Pad}
 use Rattle.books.specs.declared.refusals.TakeError.{TakeError}
-use Rattle.line.proofs.Joins.{joined-append}
+use Rattle.std.proofs.lemmas.Grind.{flat_map-append}
 use Rattle.line.specs.Buffers.{answers_bytes}
 use Rattle.line.specs.Choices.{chosen, meaning_of}
 use Rattle.line.specs.Commands.{Order, Reading, first, width, read_at, behind}
@@ -35,7 +35,7 @@ module _ (m : Meaning) (card line : List ℕ) (at : ℕ) (s : State) where
   unfolding answers_from answers_to
   from_next o h =
       ap of_reading (read_next line at o h)
-      ∙ joined-append answer_bytes (replies at (obeyed m card o s).0)
+      ∙ flat_map-append answer_bytes (replies at (obeyed m card o s).0)
       (answers_to m card (read_at line (at + width o)).commands (read_at line (at + width o)).end (length line) (obeyed m card o s).1)
 
   pub from_stop :
@@ -84,7 +84,7 @@ module _ (card line : List ℕ) (at : ℕ) (s : State) where
   unfolding unchosen_from
   before_next o h e =
       ap of_first (read_next line at o h) ∙ first_of o (read_at line (at + width o)) ∙ ap (λ x. by_choice x (read_at line (at + width o))) e
-      ∙ joined-append answer_bytes (replies at (Err (refusal.Session session.Choice)))
+      ∙ flat_map-append answer_bytes (replies at (Err (refusal.Session session.Choice)))
       (answers_before card (read_at line (at + width o)).commands (read_at line (at + width o)).end (length line) s)
 
   pub before_stop :

@@ -6,12 +6,14 @@ use Rattle.line.specs.Commands.{Order}
 use Rattle.line.specs.Lines.{answers_from, unchosen_from}
 use Rattle.line.specs.Outputs.{HasRoom, Writes, Left}
 use Rattle.line.specs.Sessions.{State}
+use Rattle.line.specs.Standing.{state_at}
 use Rattle.line.specs.declared.choice.FamilyName.{FamilyName}
 use Rattle.line.specs.declared.commands.Commands.{Commands}
 use Rattle.line.specs.declared.output.Output.{Output}
 use Rattle.line.specs.declared.refusal.LineFault.{LineFault}
 use Rattle.line.specs.declared.refusal.Refusal.{Refusal}
 use Rattle.line.specs.declared.refusal.Refusal.TheVariants as refusal
+use Rattle.line.specs.declared.session.Desk.{Desk}
 use Rattle.line.specs.declared.refusal.SessionFault.TheVariants as session
 
 -- the family that is chosen by what stands at a place, or why none is
@@ -30,3 +32,7 @@ pub record GoesOn (rest : List ℕ → List ℕ → ℕ → State → List ℕ) 
 abbrev pub Begun : (before after : Commands) (held output : Output) → Option FamilyName → Type 0
 Begun before after held output (Some family) = GoesOn (answers_from (meaning_of family)) before after held output
 Begun before after held output None = (card : List ℕ) (s : State) → Writes (unchosen_from card before.line.now before.at s) held output
+
+-- what the rest of a line answers before a choice, with the card and the books at a desk and no job open
+abbrev pub whole_answers : {S : Type 0} → (S → List ℕ) → Desk S → Commands → List ℕ
+whole_answers pads desk commands = unchosen_from desk.card commands.line.now commands.at (state_at pads desk None)

@@ -11,7 +11,7 @@ use crate::refusal::LineFault;
 const MOST_BYTES: usize = 4096;
 
 // The most bytes that a byte of the line may answer.
-const ROOM: usize = 13;
+const MOST_ANSWERED: usize = 13;
 
 // What is left of a line: each command, with its place. A fault is the last.
 #[derive(Drop)]
@@ -33,7 +33,7 @@ impl<'a> Commands<'a> {
         if line.len() > MOST_BYTES {
             return Err(LineFault::LongLine);
         }
-        if room < ROOM * line.len() {
+        if room < MOST_ANSWERED * line.len() {
             return Err(LineFault::ShortBuffer);
         }
         Ok(Commands { line, at: 0 })

@@ -1,9 +1,9 @@
 // A whole line.
-ghost use Rattle.std.specs.Prelude.{◌≡◌, ◌-◌, ◌*◌, ◌≤◌, length, IfOk, None as Nothing, OnOk};
+ghost use Rattle.std.specs.Prelude.{◌≡◌, ◌-◌, ◌*◌, ◌≤◌, length, IfOk, OnOk};
 ghost use Rattle.line.specs.Buffers.{put};
 ghost use Rattle.line.specs.Grants.{LineLawful};
-ghost use Rattle.line.specs.Lines.{line_run, unchosen_from, lent};
-ghost use Rattle.line.specs.Standing.{state_at};
+ghost use Rattle.line.specs.Beginnings.{whole_answers};
+ghost use Rattle.line.specs.Lines.{line_run, lent};
 ghost use Rattle.std.specs.Result.{result_map_both};
 
 use crate::begin::until_choice;
@@ -28,8 +28,8 @@ fn answer_line<S: PadSource + Drop>(
     answers: &mut [u8],
 ) -> usize
     requires { 13 * (length commands.line.now - commands.at) ≤ length answers.old }
-    ensures end { result ≡ length (unchosen_from desk.card commands.entry.line.now commands.entry.at (state_at S.pads desk Nothing)) }
-    ensures buffer { answers.new ≡ put 0 (unchosen_from desk.card commands.entry.line.now commands.entry.at (state_at S.pads desk Nothing)) answers.old }
+    ensures end { result ≡ length (whole_answers S.pads desk commands.entry) }
+    ensures buffer { answers.new ≡ put 0 (whole_answers S.pads desk commands.entry) answers.old }
 {
     let mut output = Output { answers, used: 0 };
     match until_choice(&mut commands, &mut output) {
@@ -46,7 +46,7 @@ fn answer_line<S: PadSource + Drop>(
 fn lend(places: &[u64], count: usize) -> Result<Sheet<'_>, PadCountError>
     ensures { result_map_both (λ s. s.pads.now) (λ e. e) result ≡ lent places.now count }
 {
-    places.get(0..count).map(Sheet::new).ok_or(PadCountError)
+    places.get(..count).map(Sheet::new).ok_or(PadCountError)
 }
 
 // Runs a line over a key card and a sheet of pads, both as bytes, and writes the answers to the front of the buffer. The

@@ -1,7 +1,7 @@
-use Rattle.std.proofs.Common.{Err, sym}
+use Rattle.std.proofs.Common.{sym, arith}
 use Rattle.line.specs.Commands.{order_of}
-use Rattle.line.specs.declared.refusal.Refusal.TheVariants as refusal
-use Rattle.line.proofs.Serving.{serves_start, serves_on, serves_stop, serves_end, fits_on, end_fits}
+use Rattle.line.proofs.Serving.{serves_start, serves_on, serves_stop, serves_end, room_on, end_fits}
+use Rattle.line.proofs.Turns.{reply_short}
 use Rattle.line.proofs.serve.serve.Goals as goal
 
 pub loop-place-init : goal.loop-place-init
@@ -10,10 +10,10 @@ loop-place-init g c =
     (serves_start g.F.Family.meaning g.S.PadSource.pads c.args.desk c.new-session.result c.args.commands c.args.output.now c.new-session.ensures c.requires)
 
 pub respond-requires : goal.respond-requires
-respond-requires g c = fits_on c.loop-place.invariant c.obey.result c.in-Some.ensures.steps
+respond-requires g c = omega (arith, room_on c.loop-place.invariant c.in-Some.ensures.steps, reply_short)
 
 pub respond-requires-in-Err : goal.respond-requires-in-Err
-respond-requires-in-Err g c = fits_on c.loop-place.invariant (Err (refusal.Line c.in-Err.fault)) c.in-Some.ensures.steps
+respond-requires-in-Err g c = omega (arith, room_on c.loop-place.invariant c.in-Some.ensures.steps, reply_short)
 
 pub respond-requires-2 : goal.respond-requires-2
 respond-requires-2 g c = let on = c.loop-place.invariant in end_fits on c.finish.result c.end-end.result (c.finish.ensures on.job on.stands)
