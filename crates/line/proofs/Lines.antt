@@ -1,10 +1,9 @@
 -- The commands of a line, place by place.
-use Rattle.std.proofs.Common.{◌≡◌, ℕ, zero, suc, ◌+◌, ◌-◌, ◌<◌, ◌≤◌, Bool, true, false, cond, eqb, leb, List, [], ◌∷◌, length, get_or, take, drop, Ok, Err, Result, sym, refl, ap, ◌∙◌, add-one, arith, length-drop, drop-cons}
+use Rattle.std.proofs.Common.{◌≡◌, ℕ, zero, suc, ◌+◌, ◌-◌, ◌<◌, ◌≤◌, List, [], ◌∷◌, length, get_or, take, drop, Ok, Err, Result, sym, refl, ap, ◌∙◌, add-one, arith, length-drop, drop-cons}
 use Rattle.std.proofs.lemmas.Slice.{between_to_end}
 use Rattle.std.proofs.lemmas.List.{drop_all, drop-drop}
-use Rattle.std.proofs.lemmas.Bool.{leb-true}
-use Rattle.line.specs.Bytes.{number_of}
-use Rattle.line.specs.Commands.{Order, Reading, first, begun, operands, width, read_from, read_at, behind, nothing}
+use Rattle.std.proofs.lemmas.Bool.Decides.{nat_tests}
+use Rattle.line.specs.Commands.{Order, Reading, first, begun, width, read_from, read_at, behind, nothing}
 use Rattle.line.specs.Commands.Order.{choose, open_job, feed_byte, feed_block, seal_job, strike_pad, check_job}
 use Rattle.line.specs.Steps.{past}
 use Rattle.line.specs.Commands.End.{all_read, stopped}
@@ -35,47 +34,8 @@ width_some seal_job = omega arith
 width_some strike_pad = omega arith
 width_some (check_job number tag) = omega arith
 
-operands_by :
-    (t : Bool) (n : ℕ) (bs : List ℕ) (make : List ℕ → Order) (o : Order) →
-    leb n (length bs) ≡ t →
-    ((xs : List ℕ) → width (make xs) ≡ suc n) →
-    cond t (Ok (make (take n bs))) (Err CutOff) ≡ Ok o →
-    width o ≤ suc (length bs)
-operands_by true n bs make o e w h =
-    let within = leb-true n (length bs) e in
-    let same : make (take n bs) ≡ o = cc in
-    let a = w (take n bs) in
-    let b = ap width same in
-    omega arith
-operands_by false n bs make o e w h = cc
-
-operands_within :
-    (n : ℕ) (bs : List ℕ) (make : List ℕ → Order) (o : Order) →
-    ((xs : List ℕ) → width (make xs) ≡ suc n) →
-    operands n bs make ≡ Ok o →
-    width o ≤ suc (length bs)
-operands_within n bs make o w h = operands_by (leb n (length bs)) n bs make o refl w h
-
--- by whether a test came out
-pub by_test : {X : Type 0} (t : Bool) {x y r : X} (P : Type 0) → (x ≡ r → P) → (y ≡ r → P) → cond t x y ≡ r → P
-by_test true P f g e = f e
-by_test false P f g e = g e
-
-one_byte : (o p : Order) (bs : List ℕ) → width o ≡ 1 → ◌≡◌ {A = Result Order LineFault} (Ok o) (Ok p) → width p ≤ suc (length bs)
-one_byte o p bs w h = let same : o ≡ p = cc in let e = ap width same in omega arith
-
 begun_within : (byte : ℕ) (bs : List ℕ) (o : Order) → begun byte bs ≡ Ok o → width o ≤ suc (length bs)
-begun_within byte bs o h =
-    let P : Type 0 = width o ≤ suc (length bs) in
-    by_test (eqb byte 0x46) P (operands_within 1 bs (λ xs. choose (number_of xs)) o (λ xs. refl))
-    (by_test (eqb byte 0x4f) P (operands_within 4 bs (λ xs. open_job (number_of xs)) o (λ xs. refl))
-    (by_test (eqb byte 0x42) P (operands_within 1 bs (λ xs. feed_byte (number_of xs)) o (λ xs. refl))
-    (by_test (eqb byte 0x51) P (operands_within 16 bs feed_block o (λ xs. refl))
-    (by_test (eqb byte 0x5a) P (one_byte seal_job o bs refl)
-    (by_test (eqb byte 0x58) P (one_byte strike_pad o bs refl)
-    (by_test (eqb byte 0x43) P
-    (operands_within 12 bs (λ xs. check_job (number_of (take 4 xs)) (number_of (drop 4 xs))) o (λ xs. refl))
-    (λ e. cc))))))) h
+begun_within byte bs o h = grind (arith, nat_tests)
 
 pub first_within : (bs : List ℕ) (o : Order) → first bs ≡ Ok o → width o ≤ length bs
 first_within [] o h = cc

@@ -1,7 +1,8 @@
 -- Bytes that are written into a buffer, one part behind the other.
-use Rattle.std.proofs.Common.{◌≡◌, ℕ, ◌+◌, ◌≤◌, List, [], ◌++◌, length, take, drop, refl, sym, ap, ◌∙◌, subst, append_assoc, add-zero, arith, length-append}
-use Rattle.std.proofs.lemmas.List.{take-append-drop, take_at, drop_at, drop-drop, length-take-le}
+use Rattle.std.proofs.Common.{◌≡◌, ℕ, ◌+◌, ◌≤◌, List, [], ◌++◌, length, take, drop, refl, sym, ap, ◌∙◌, subst, append_assoc, add_assoc, add-zero, arith, length-append}
+use Rattle.std.proofs.lemmas.List.{take_at}
 use borrow.Rule.Slice.PartMut.{put_mid}
+use Rattle.std.proofs.lemmas.Slice.{drop-append-drop}
 use Rattle.std.proofs.lemmas.Grind.{common_steps}
 use Rattle.line.specs.Buffers.{put}
 use Rattle.line.specs.Outputs.{Left, Writes}
@@ -9,10 +10,10 @@ use Rattle.line.specs.declared.output.Output.{Output}
 
 -- a write to a part of the buffer
 pub put_part : (at k : ℕ) (buffer ys bytes : List ℕ) → k ≡ length bytes → ys ≡ bytes → put_mid at k buffer ys ≡ put at bytes buffer
-put_part at k buffer ys bytes e f = rw (e, f) (ap (λ (zs : List ℕ). take at buffer ++ (bytes ++ zs)) (drop-drop (length bytes) at buffer))
+put_part at k buffer ys bytes e f = grind (arith, common_steps)
 
-pub put_nothing : (at : ℕ) (buffer : List ℕ) → put at [] buffer ≡ buffer
-put_nothing at buffer = ap (λ n. take at buffer ++ drop n buffer) (add-zero at) ∙ take-append-drop at buffer
+put_nothing : (at : ℕ) (buffer : List ℕ) → put at [] buffer ≡ buffer
+put_nothing at buffer = grind (arith, common_steps)
 
 -- what stands in a buffer is no longer than the buffer
 pub put_within :
@@ -25,32 +26,15 @@ put_within bytes buffer after n long is end =
     let s = ap length is ∙ length-append bytes (drop (0 + length bytes) buffer) in
     omega arith
 
-module _ (at : ℕ) (front back buffer : List ℕ) (room : at + length front ≤ length buffer) where
-  begun_long : length (take at buffer ++ front) ≡ at + length front
-  begun_long =
-      let n = length-take-le at buffer (omega arith) in
-      let s = length-append (take at buffer) front in
-      omega arith
-
-  as_begun : put at front buffer ≡ (take at buffer ++ front) ++ drop (at + length front) buffer
-  as_begun = sym (append_assoc (take at buffer) front (drop (at + length front) buffer))
-
-  -- one part behind the other is both at once
-  pub put_both : put (at + length front) back (put at front buffer) ≡ put at (front ++ back) buffer
-  put_both =
-      let before : take (at + length front) (put at front buffer) ≡ take at buffer ++ front =
-      ap (take (at + length front)) as_begun ∙ take_at (take at buffer ++ front) (drop (at + length front) buffer) (at + length front) begun_long
-      in
-      let past : drop (at + length front + length back) (put at front buffer) ≡ drop (at + length (front ++ back)) buffer =
-      sym (drop-drop (length back) (at + length front) (put at front buffer))
-      ∙ ap (drop (length back)) (ap (drop (at + length front)) as_begun ∙ drop_at (take at buffer ++ front) (drop (at + length front) buffer) (at + length front) begun_long)
-      ∙ drop-drop (length back) (at + length front) buffer
-      ∙ ap (λ n. drop n buffer) (let s = length-append front back in omega arith)
-      in
-      ap (λ (xs : List ℕ). xs ++ (back ++ drop (at + length front + length back) (put at front buffer))) before
-      ∙ ap (λ (xs : List ℕ). (take at buffer ++ front) ++ (back ++ xs)) past
-      ∙ append_assoc (take at buffer) front (back ++ drop (at + length (front ++ back)) buffer)
-      ∙ ap (λ (xs : List ℕ). take at buffer ++ xs) (sym (append_assoc front back (drop (at + length (front ++ back)) buffer)))
+-- one part behind the other is both at once
+put_both : (at : ℕ) (front back buffer : List ℕ) → at + length front ≤ length buffer → put (at + length front) back (put at front buffer) ≡ put at (front ++ back) buffer
+put_both at front back buffer room =
+    let begun : List ℕ = take at buffer ++ front in
+    let after : List ℕ = drop (at + length front) buffer in
+    let long : length begun ≡ at + length front = grind (arith, common_steps) in
+    let is : put at front buffer ≡ begun ++ after = sym (append_assoc (take at buffer) front after) in
+    rw (is, take_at begun after (at + length front) long, drop-append-drop (at + length front) buffer begun (at + length front + length back) (omega arith) long)
+    (simp (append_assoc, length-append {A = ℕ}, add_assoc))
 
 -- a write keeps the buffer's length
 pub length-put : (at : ℕ) (bytes buffer : List ℕ) → at + length bytes ≤ length buffer → length (put at bytes buffer) ≡ length buffer
