@@ -29,7 +29,7 @@ use Rattle.line.specs.declared.refusal.LineFault.{LineFault}
 use Rattle.line.specs.declared.refusal.Refusal.TheVariants as refusal
 use Rattle.line.specs.declared.refusal.BookFault.TheVariants as book
 use Rattle.line.proofs.Codes.{read_written}
-use Rattle.line.proofs.Joins.{joined-append}
+use Rattle.std.proofs.lemmas.Grind.{flat_map-append}
 use Rattle.line.proofs.Lines.{read_by, read_some}
 
 -- ---- the commands of a line fit their widths
@@ -295,7 +295,7 @@ module _ (m : Meaning) (card : List ℕ) where
   to_same [] end long s = end_same end long s.job
   to_same (p ∷ ps) end long s =
       let x : Reply × State = obeyed m card p.order s in
-      joined-append grants (replies p.place x.0) (answers_to m card ps end long x.1)
+      flat_map-append grants (replies p.place x.0) (answers_to m card ps end long x.1)
       ∙ ap (λ xs. xs ++ flat_map grants (answers_to m card ps end long x.1)) (obeyed_same m card p.place p.order s)
       ∙ ap (λ xs. flat_map granted_by (calls m card p.order s) ++ xs) (to_same ps end long x.1)
-      ∙ sym (joined-append granted_by (calls m card p.order s) (calls_to m card ps x.1))
+      ∙ sym (flat_map-append granted_by (calls m card p.order s) (calls_to m card ps x.1))

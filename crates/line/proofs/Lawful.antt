@@ -1,16 +1,17 @@
 -- The law over runs holds of what a line grants.
-use Rattle.std.proofs.Common.{◌≡◌, ℕ, ◌≤◌, Bool, true, false, cond, List, [], ◌∷◌, ◌++◌, length, get_or, Some, None, Ok, Err, Option, sym, refl, ap, ◌∙◌, subst, arith}
+use Rattle.std.proofs.Common.{◌≡◌, ℕ, ◌≤◌, List, [], ◌∷◌, ◌++◌, length, Some, None, Ok, Err, Option, sym, refl, ap, ◌∙◌, subst, arith}
 use Rattle.families.specs.Meanings.{Meaning}
 use Rattle.jobs.specs.Roots.{Card, root_tag}
 use Rattle.std.specs.List.{flat_map}
+use Rattle.std.proofs.lemmas.List.{append-nil}
+use Rattle.std.proofs.lemmas.Bool.Decides.{nat_tests}
 use Rattle.books.proofs.Laws.{law_holds}
 use Rattle.books.specs.Counting.{times}
-use Rattle.books.specs.Fates.{fate_is}
 use Rattle.books.specs.Law.{through, recording, recorded}
 use Rattle.books.specs.Law as law
 use Rattle.books.specs.Runs.{Books, Event, Run}
 use Rattle.books.specs.Runs.Event.{take, seal, strike, call_in, check}
-use Rattle.books.specs.declared.fate.Fate.TheVariants.{Unspent, Sealed}
+use Rattle.books.specs.declared.fate.Fate.TheVariants.{Sealed}
 use Rattle.families.specs.Names.{meaning_of}
 use Rattle.line.specs.Choices.{chosen}
 use Rattle.line.specs.Commands.{Placed, End, read_at}
@@ -78,17 +79,11 @@ module _ (card : List ℕ) (end : End) (long : ℕ) (s : State) (none : s.job �
 
 -- ---- the numbers that are sealed and accepted
 
-seals_granted : (a : Answer) → flat_map sealing (grants a) ≡ sealing a
-seals_granted (answer.Sealed number tag) = refl
-seals_granted (answer.Struck number) = refl
-seals_granted (answer.Accepted number) = refl
-seals_granted (answer.Refused r place) = refl
-
-accepts_granted : (a : Answer) → flat_map accepting (grants a) ≡ accepting a
-accepts_granted (answer.Sealed number tag) = refl
-accepts_granted (answer.Struck number) = refl
-accepts_granted (answer.Accepted number) = refl
-accepts_granted (answer.Refused r place) = refl
+granted_alone : (f : Answer → List ℕ) → ((r : Refusal) (place : ℕ) → f (answer.Refused r place) ≡ []) → (a : Answer) → flat_map f (grants a) ≡ f a
+granted_alone f none (answer.Sealed number tag) = append-nil (f (answer.Sealed number tag))
+granted_alone f none (answer.Struck number) = append-nil (f (answer.Struck number))
+granted_alone f none (answer.Accepted number) = append-nil (f (answer.Accepted number))
+granted_alone f none (answer.Refused r place) = sym (none r place)
 
 seals_called : (e : Event) → flat_map sealing (granted_by e) ≡ recording Sealed e
 seals_called (take r) = refl
@@ -117,14 +112,10 @@ through_joined f [] = refl
 through_joined f (e ∷ es) = ap (λ xs. f e ++ xs) (through_joined f es)
 
 -- what a number stands for in the answers, it stands for in the calls
-module _ (f : Answer → List ℕ) (g : Event → List ℕ) (same : (a : Answer) → flat_map f (grants a) ≡ f a) (same' : (e : Event) → flat_map f (granted_by e) ≡ g e) where
+module _ (f : Answer → List ℕ) (g : Event → List ℕ) (none : (r : Refusal) (place : ℕ) → f (answer.Refused r place) ≡ []) (same' : (e : Event) → flat_map f (granted_by e) ≡ g e) where
   numbers : (xs : List Answer) (es : List Event) → flat_map grants xs ≡ flat_map granted_by es → flat_map f xs ≡ through g es
   numbers xs es h =
-      sym (joined_joined f grants f same xs) ∙ ap (flat_map f) h ∙ joined_joined f granted_by g same' es ∙ through_joined g es
-
-at_most_one : (t : Bool) → cond t 1 0 ≤ 1
-at_most_one true = omega arith
-at_most_one false = omega arith
+      sym (joined_joined f grants f (granted_alone f none) xs) ∙ ap (flat_map f) h ∙ joined_joined f granted_by g same' es ∙ through_joined g es
 
 -- ---- the law
 
@@ -151,13 +142,13 @@ module _ (card pads line : List ℕ) (keyed : Card card) (few : length pads ≤ 
         forged = both.1;
         sealed_once = λ n.
             let e : times n (flat_map sealing (line_answers card pads line)) ≡ recorded Sealed n d =
-            ap (times n) (numbers sealing (recording Sealed) seals_granted seals_called (line_answers card pads line) events same)
+            ap (times n) (numbers sealing (recording Sealed) (λ r place. refl) seals_called (line_answers card pads line) events same)
             ∙ both.0.sealed_recorded n
             in
-            let l : recorded Sealed n d ≤ 1 = at_most_one (fate_is Sealed (get_or d.office.fates n Unspent)) in
+            let l : recorded Sealed n d ≤ 1 = grind (arith, nat_tests) in
             omega arith;
         accepted_once = λ n.
-            let e = ap (times n) (numbers accepting law.accepting accepts_granted accepts_called (line_answers card pads line) events same) in
+            let e = ap (times n) (numbers accepting law.accepting (λ r place. refl) accepts_called (line_answers card pads line) events same) in
             let l = both.0.accepted_once n in
             omega arith;
       }

@@ -3,6 +3,7 @@ pub mod Digits
 pub mod Lines
 pub mod Puts
 pub mod Turns
+pub mod Choosing
 pub mod Serving
 pub mod Admissions
 pub mod Codes

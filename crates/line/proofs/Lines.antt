@@ -1,10 +1,12 @@
 -- The commands of a line, place by place.
-use Rattle.std.proofs.Common.{◌≡◌, ℕ, zero, suc, ◌+◌, ◌<◌, ◌≤◌, Bool, true, false, cond, eqb, leb, List, [], ◌∷◌, length, take, drop, Ok, Err, Result, sym, refl, ap, ◌∙◌, arith, length-drop, length-take}
+use Rattle.std.proofs.Common.{◌≡◌, ℕ, zero, suc, ◌+◌, ◌-◌, ◌<◌, ◌≤◌, Bool, true, false, cond, leb, List, [], ◌∷◌, length, get_or, take, drop, Ok, Err, Result, sym, refl, ap, ◌∙◌, add-one, arith, length-drop, drop-cons}
+use Rattle.std.proofs.lemmas.Slice.{between_to_end}
 use Rattle.std.proofs.lemmas.List.{drop_all, drop-drop, length-take-le}
 use Rattle.std.proofs.lemmas.Bool.{leb-true}
-use Rattle.line.specs.Bytes.{number_of}
+use Rattle.std.proofs.lemmas.Bool.Decides.{nat_tests}
 use Rattle.line.specs.Commands.{Order, Reading, first, begun, operands, width, read_from, read_at, behind, nothing}
 use Rattle.line.specs.Commands.Order.{choose, open_job, feed_byte, feed_block, seal_job, strike_pad, check_job}
+use Rattle.line.specs.Steps.{past}
 use Rattle.line.specs.Commands.End.{all_read, stopped}
 use Rattle.line.specs.declared.refusal.LineFault.{LineFault}
 
@@ -35,34 +37,17 @@ operands_read n bs make o h =
     (λ t e. cc)
     h
 
-operands_within :
-    (n : ℕ) (bs : List ℕ) (make : List ℕ → Order) (o : Order) →
-    ((xs : List ℕ) → width (make xs) ≡ suc n) →
-    operands n bs make ≡ Ok o →
-    width o ≤ suc (length bs)
-operands_within n bs make o w h =
-    let r = operands_read n bs make o h in
-    omega (arith, w (take n bs), ap width r.1, length-take n bs)
-
-one_byte : (o p : Order) (bs : List ℕ) → width o ≡ 1 → ◌≡◌ {A = Result Order LineFault} (Ok o) (Ok p) → width p ≤ suc (length bs)
-one_byte o p bs w h = let same : o ≡ p = cc in omega (arith, ap width same)
-
 begun_within : (byte : ℕ) (bs : List ℕ) (o : Order) → begun byte bs ≡ Ok o → width o ≤ suc (length bs)
-begun_within byte bs o h =
-    let P : Type 0 = width o ≤ suc (length bs) in
-    by_cases (eqb byte 0x46) P (λ _. operands_within 1 bs (λ xs. choose (number_of xs)) o (λ xs. refl))
-    (λ _. by_cases (eqb byte 0x4f) P (λ _. operands_within 4 bs (λ xs. open_job (number_of xs)) o (λ xs. refl))
-    (λ _. by_cases (eqb byte 0x42) P (λ _. operands_within 1 bs (λ xs. feed_byte (number_of xs)) o (λ xs. refl))
-    (λ _. by_cases (eqb byte 0x51) P (λ _. operands_within 16 bs feed_block o (λ xs. refl))
-    (λ _. by_cases (eqb byte 0x5a) P (λ _. one_byte seal_job o bs refl)
-    (λ _. by_cases (eqb byte 0x58) P (λ _. one_byte strike_pad o bs refl)
-    (λ _. by_cases (eqb byte 0x43) P
-    (λ _. operands_within 12 bs (λ xs. check_job (number_of (take 4 xs)) (number_of (drop 4 xs))) o (λ xs. refl))
-    (λ _ e. cc))))))) h
+begun_within byte bs o h = grind (arith, nat_tests)
 
 pub first_within : (bs : List ℕ) (o : Order) → first bs ≡ Ok o → width o ≤ length bs
 first_within [] o h = cc
 first_within (byte ∷ bs) o h = begun_within byte bs o h
+
+-- a command ends behind its place, and a fault at the end of the line
+pub past_more : (x : Result Order LineFault) (at long : ℕ) → at < long → at < past x at long
+past_more (Ok o) at long h = let w = width_some o in omega arith
+past_more (Err f) at long h = h
 
 -- ---- reading on
 

@@ -1,15 +1,18 @@
 -- What a turn of the loop answers, and the room that it takes.
-use Rattle.std.proofs.Common.{◌≡◌, ℕ, ◌+◌, ◌*◌, ◌<◌, ◌≤◌, List, [], ◌∷◌, ◌++◌, length, drop, Some, None, Ok, Err, Option, Result, refl, ap, ◌∙◌, arith, length-append}
+use Rattle.std.proofs.Common.{◌≡◌, ℕ, ◌+◌, ◌*◌, ◌<◌, ◌≤◌, List, [], ◌++◌, length, drop, Some, None, Ok, Err, Option, Result, refl, sym, ap, ◌∙◌, arith, length-append}
 use Rattle.families.specs.Meanings.{Meaning}
 use Rattle.jobs.specs.Roots.{Job, root_tag}
 use Rattle.books.specs.Office.{Office, taken}
 use Rattle.books.specs.declared.pad.Pad.{Pad}
 use Rattle.books.specs.declared.refusals.TakeError.{TakeError}
-use Rattle.line.proofs.Joins.{joined-append}
+use Rattle.std.proofs.lemmas.Grind.{flat_map-append}
+use Rattle.std.specs.Option.{ok_or}
+use Rattle.line.specs.Beginnings.{choice_of}
 use Rattle.line.specs.Buffers.{answers_bytes}
+use Rattle.line.specs.Steps.{past}
 use Rattle.families.specs.Names.{meaning_of}
 use Rattle.line.specs.Choices.{chosen}
-use Rattle.line.specs.Commands.{Order, Reading, first, width, read_at, behind}
+use Rattle.line.specs.Commands.{Order, Reading, first, width, read_at}
 use Rattle.line.specs.Commands.Order.{choose, open_job, feed_byte, feed_block, seal_job, strike_pad, check_job}
 use Rattle.line.specs.Lines.{answers_from, unchosen_from}
 use Rattle.line.specs.Numbers.{answer_bytes}
@@ -18,9 +21,11 @@ use Rattle.line.specs.declared.answer.Answer.{Answer}
 use Rattle.line.specs.declared.answer.Answer.TheVariants.{Sealed, Struck, Accepted, Refused}
 use Rattle.families.specs.declared.name.FamilyName.{FamilyName}
 use Rattle.line.specs.declared.refusal.LineFault.{LineFault}
+use Rattle.line.specs.declared.refusal.Refusal.{Refusal}
 use Rattle.line.specs.declared.refusal.Refusal.TheVariants as refusal
 use Rattle.line.specs.declared.refusal.SessionFault.TheVariants as session
 use Rattle.line.proofs.Lines.{read_next, read_stop, read_done}
+use Rattle.line.proofs.Wholes.{answers_by, answers_by_lem}
 
 -- ---- the answers, by what stands at a place
 
@@ -36,7 +41,7 @@ module _ (m : Meaning) (card line : List ℕ) (at : ℕ) (s : State) where
   unfolding answers_from answers_to
   from_next o h =
       ap of_reading (read_next line at o h)
-      ∙ joined-append answer_bytes (replies at (obeyed m card o s).0)
+      ∙ flat_map-append answer_bytes (replies at (obeyed m card o s).0)
       (answers_to m card (read_at line (at + width o)).commands (read_at line (at + width o)).end (length line) (obeyed m card o s).1)
 
   pub from_stop :
@@ -56,49 +61,57 @@ module _ (card line : List ℕ) (at : ℕ) (s : State) where
   of_first r = answers_bytes (answers_before card r.commands r.end (length line) s)
 
   abbrev by_choice : Option FamilyName → Reading → List ℕ
-  by_choice (Some f) r = answers_bytes (answers_to (meaning_of f) card r.commands r.end (length line) s)
-  by_choice None r = answers_bytes (Refused (refusal.Session session.Choice) at ∷ answers_before card r.commands r.end (length line) s)
+  by_choice c r = answers_bytes (answers_by c card at r.commands r.end (length line) s (answers_before card r.commands r.end (length line) s))
 
-  first_of : (o : Order) (r : Reading) → of_first (behind (record { place = at; order = o }) r) ≡ by_choice (chosen o) r
-  unfolding answers_before
-  first_of o r =
-      elim (chosen o) as (λ x. answers_bytes (elim x [
-        | Some family ↦ answers_to (meaning_of family) card r.commands r.end (length line) s
-        | None ↦ Refused (refusal.Session session.Choice) at ∷ answers_before card r.commands r.end (length line) s
-      ]) ≡ by_choice x r) [ Some f ↦ refl | None ↦ refl ]
-
-  pub before_choice :
-      (o : Order) (f : FamilyName) →
-      first (drop at line) ≡ Ok o →
-      chosen o ≡ Some f →
-      unchosen_from card line at s ≡ answers_from (meaning_of f) card line (at + width o) s
-  unfolding unchosen_from answers_from
-  before_choice o f h e =
-      ap of_first (read_next line at o h) ∙ first_of o (read_at line (at + width o)) ∙ ap (λ x. by_choice x (read_at line (at + width o))) e
-
-  pub before_next :
-      (o : Order) →
-      first (drop at line) ≡ Ok o →
-      chosen o ≡ None →
-      unchosen_from card line at s
-      ≡ answers_bytes (replies at (Err (refusal.Session session.Choice))) ++ unchosen_from card line (at + width o) s
+  before_next : (o : Order) → first (drop at line) ≡ Ok o → unchosen_from card line at s ≡ by_choice (chosen o) (read_at line (at + width o))
   unfolding unchosen_from
-  before_next o h e =
-      ap of_first (read_next line at o h) ∙ first_of o (read_at line (at + width o)) ∙ ap (λ x. by_choice x (read_at line (at + width o))) e
-      ∙ joined-append answer_bytes (replies at (Err (refusal.Session session.Choice)))
-      (answers_before card (read_at line (at + width o)).commands (read_at line (at + width o)).end (length line) s)
-
-  pub before_stop :
-      (f : LineFault) →
-      at < length line →
-      first (drop at line) ≡ Err f →
-      unchosen_from card line at s ≡ answers_bytes (replies at (Err (refusal.Line f)))
-  unfolding unchosen_from answers_before
-  before_stop f l h = ap of_first (read_stop line at f l h)
+  before_next o h =
+      let rest = read_at line (at + width o) in
+      ap of_first (read_next line at o h)
+      ∙ ap answers_bytes (answers_by_lem card (record { place = at; order = o }) rest.commands rest.end (length line) s)
 
   pub before_end : length line ≤ at → unchosen_from card line at s ≡ []
   unfolding unchosen_from answers_before
   before_end l = ap of_first (read_done line at l)
+
+  by_chosen :
+      (c : Option FamilyName) (f : FamilyName) (r : Reading) →
+      ok_or c (refusal.Session session.Choice) ≡ Ok f →
+      by_choice c r ≡ answers_bytes (answers_to (meaning_of f) card r.commands r.end (length line) s)
+  by_chosen (Some g) f r h = let same : g ≡ f = cc in ap (λ x. by_choice (Some x) r) same
+  by_chosen None f r h = cc
+
+  by_refused :
+      (c : Option FamilyName) (q : Refusal) (r : Reading) →
+      ok_or c (refusal.Session session.Choice) ≡ Err q →
+      by_choice c r ≡ answers_bytes (replies at (Err q)) ++ of_first r
+  by_refused (Some g) q r h = cc
+  by_refused None q r h = let same : refusal.Session session.Choice ≡ q = cc in ap (λ x. answers_bytes (replies at (Err x)) ++ of_first r) same
+
+  -- a choice leaves what follows to the family
+  pub at_choice :
+      (x : Result Order LineFault) (f : FamilyName) →
+      first (drop at line) ≡ x →
+      choice_of x ≡ Ok f →
+      unchosen_from card line at s ≡ answers_from (meaning_of f) card line (past x at (length line)) s
+  unfolding answers_from
+  at_choice (Ok o) f e h = before_next o e ∙ by_chosen (chosen o) f (read_at line (at + width o)) h
+  at_choice (Err g) f e h = cc
+
+module _ (card line : List ℕ) (at : ℕ) (s : State) where
+  -- anything else is refused
+  pub at_refusal :
+      (x : Result Order LineFault) (q : Refusal) →
+      at < length line →
+      first (drop at line) ≡ x →
+      choice_of x ≡ Err q →
+      unchosen_from card line at s ≡ answers_bytes (replies at (Err q)) ++ unchosen_from card line (past x at (length line)) s
+  unfolding unchosen_from answers_before
+  at_refusal (Ok o) q l e h = before_next card line at s o e ∙ by_refused card line at s (chosen o) q (read_at line (at + width o)) h
+  at_refusal (Err g) q l e h =
+      let same : refusal.Line g ≡ q = cc in
+      ap (of_first card line at s) (read_stop line at g l e) ∙ ap (λ x. answers_bytes (replies at (Err x))) same
+      ∙ sym (ap (λ xs. answers_bytes (replies at (Err q)) ++ xs) (before_end card line (length line) s (omega arith)))
 
 -- ---- the room
 
@@ -134,16 +147,13 @@ strike_keeps : (r : Result Pad TakeError) (office : Office) (s : State) → (str
 strike_keeps (Err e) office s = refl
 strike_keeps (Ok pad) office s = refl
 
--- an answer of any command with two bytes or more fits
-wide : (n a b w : ℕ) → n ≤ 13 → a ≤ 7 → 2 ≤ w → n + a ≤ b + 13 * w
-wide n a b w h h' h'' = omega arith
-
 module _ (m : Meaning) (card : List ℕ) (place : ℕ) where
   abbrev Room : Reply × State → State → ℕ → Type 0
   Room x s w = length (answers_bytes (replies place x.0)) + owes x.1.job ≤ owes s.job + 13 * w
 
+  -- an answer of any command with two bytes or more fits
   room_of : (x : Reply × State) (s : State) (w : ℕ) → 2 ≤ w → Room x s w
-  room_of x s w h = wide _ _ (owes s.job) w (reply_short place x.0) (owes_few x.1.job) h
+  room_of x s w h = omega (arith, reply_short place x.0, owes_few x.1.job)
 
   seal_room : (job : Option Job) (s : State) → s.job ≡ job → Room (seals_by m card job s) s 1
   seal_room None s e = let z = ap owes e in omega arith

@@ -9,7 +9,7 @@ use Rattle.std.specs.List.{AllByRecursion}
 use Rattle.families.specs.Names.{meaning_of}
 use Rattle.line.specs.Choices.{chosen}
 use Rattle.line.specs.Commands.{Order, Placed, End, Reading, encoded, width, first, read_from, read_at, behind, nothing}
-use Rattle.line.specs.Commands.End.{all_read, stopped}
+use Rattle.line.specs.Commands.End.{all_read}
 use Rattle.line.specs.Laws.{Fitting, encoded_all, placed_from, AllRead, AllWritten, LinesExtend}
 use Rattle.line.specs.Lines.{at_first}
 use Rattle.line.specs.Sessions.{State, obeyed, replies, finished, answers_to, answers_before}
@@ -58,9 +58,6 @@ all_read_again os h more =
 abbrev orders : Reading → List Order
 orders r = map (λ p. p.order) r.commands
 
-stopped_not : (f : LineFault) (place : ℕ) → stopped f place ≡ all_read → ⊥
-stopped_not f place h = let z : ◌≡◌ {A = ℕ} 0 1 = cc in omega arith
-
 none_written : (n place : ℕ) → encoded_all (orders (read_from n place [])) ≡ []
 unfolding read_from
 none_written zero place = refl
@@ -80,7 +77,7 @@ written_by :
     first (byte ∷ bs) ≡ r →
     (read_by r n place (byte ∷ bs)).end ≡ all_read →
     encoded_all (orders (read_by r n place (byte ∷ bs))) ≡ byte ∷ bs
-written_by n place byte bs again bytes l (Err f) e h = absurd (stopped_not f place h)
+written_by n place byte bs again bytes l (Err f) e h = cc
 written_by n place byte bs again bytes l (Ok o) e h =
     let s = shorter o byte bs in
     let line : List ℕ = byte ∷ bs in

@@ -1,5 +1,5 @@
 -- Answers in a buffer.
-use Rattle.std.specs.Prelude.{◌≡◌, ℕ, ◌+◌, List, ◌++◌, length, take, drop}
+use Rattle.std.specs.Prelude.{ℕ, ◌+◌, List, ◌++◌, length, take, drop}
 use Rattle.line.specs.Numbers.{answer_bytes}
 use Rattle.line.specs.declared.answer.Answer.{Answer}
 use Rattle.std.specs.List.{flat_map}
@@ -11,8 +11,3 @@ answers_bytes answers = flat_map answer_bytes answers
 -- a buffer after bytes were written into it at a place
 abbrev pub put : ℕ → List ℕ → List ℕ → List ℕ
 put at bytes buffer = take at buffer ++ (bytes ++ drop (at + length bytes) buffer)
-
--- What is left to write: `rest`, at `used`, so that in the end `whole` stands at `from` in what the buffer held.
-pub record Left (whole held : List ℕ) (from : ℕ) (rest buffer : List ℕ) (used : ℕ) : Type 0 where
-  pub long : used + length rest ≡ from + length whole
-  pub same : put used rest buffer ≡ put from whole held

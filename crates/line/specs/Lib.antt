@@ -6,6 +6,8 @@ pub mod Faults
 pub mod Sessions
 pub mod Buffers
 pub mod Lines
+pub mod Steps
+pub mod Outputs
 pub mod Standing
 pub mod Beginnings
 pub mod Laws

@@ -1,59 +1,34 @@
 // The commands before a family is chosen, and the choice.
-ghost use Rattle.std.specs.Prelude.{◌+◌, ◌*◌, ◌≤◌, length};
-ghost use Rattle.line.specs.Beginnings.{Begun};
+ghost use Rattle.std.specs.Prelude.{◌≡◌};
+ghost use Rattle.line.specs.Beginnings.{Begun, choice_of};
+ghost use Rattle.line.specs.Commands.{order_of};
+ghost use Rattle.line.specs.Outputs.{HasRoom};
+ghost use Rattle.std.specs.Result.{result_map_both};
 
 use crate::choice::chosen_family;
-use crate::output::respond;
-use crate::reader::read_command;
-use crate::refusal::{Refusal, SessionFault};
+use crate::command::Command;
+use crate::commands::Commands;
+use crate::output::Output;
+use crate::refusal::{LineFault, Refusal, SessionFault};
 use families::FamilyName;
 
-// Where the first commands of a line lead.
-#[derive(Clone, Copy)]
-pub(crate) enum Beginning {
-    // A family was chosen, and the commands go on at this place.
-    Chosen {
-        family: FamilyName,
-        at: usize,
-        used: usize,
-    },
-    // The line ended.
-    Ended {
-        used: usize,
-    },
+// The family that is chosen, or why none is.
+fn choice(read: Result<Command, LineFault>) -> Result<FamilyName, Refusal>
+    ensures { result ≡ choice_of (result_map_both order_of (λ e. e) read.entry) }
+{
+    chosen_family(read?).ok_or(Refusal::Session(SessionFault::Choice))
 }
 
-// Refuses every command until a family is chosen.
-pub(crate) fn until_choice(line: &[u8], answers: &mut [u8]) -> Beginning
-    requires short { length line.now ≤ 4096 }
-    requires room { 13 * length line.now ≤ length answers.old }
-    ensures { Begun line.now answers.old answers.new result }
+// Refuses every command until one chooses a family.
+pub(crate) fn until_choice(commands: &mut Commands, output: &mut Output) -> Option<FamilyName>
+    requires { HasRoom commands.old output.old }
+    ensures { Begun commands.old commands.new output.old output.new result }
 {
-    let mut at = 0;
-    let mut used = 0;
-    while at < line.len() {
-        let command = match read_command(line, at) {
-            Ok(command) => command,
-            Err(fault) => {
-                let used = respond(answers, used, at, Err(Refusal::Line(fault)));
-                return Beginning::Ended { used };
-            }
-        };
-        let next = at + command.size();
-        if let Some(family) = chosen_family(command) {
-            return Beginning::Chosen {
-                family,
-                at: next,
-                used,
-            };
+    while let Some((place, read)) = commands.next() {
+        match choice(read) {
+            Ok(family) => return Some(family),
+            Err(refusal) => output.respond(place, Err(refusal)),
         }
-        used = respond(
-            answers,
-            used,
-            at,
-            Err(Refusal::Session(SessionFault::Choice)),
-        );
-        at = next;
     }
-    Beginning::Ended { used }
+    None
 }

@@ -5,6 +5,7 @@ mod answer;
 mod begin;
 mod choice;
 mod command;
+mod commands;
 mod fault;
 mod laws;
 mod output;

@@ -2,11 +2,19 @@
 ghost use Rattle.std.specs.Prelude.{◌≡◌, ◌+◌, ◌≤◌, length};
 ghost use Rattle.line.specs.Buffers.{put, answers_bytes};
 ghost use Rattle.line.specs.Numbers.{answer_bytes};
+ghost use Rattle.line.specs.Outputs.{Writes};
 ghost use Rattle.line.specs.Sessions.{replies};
 ghost use Rattle.std.specs.Option.{option_to_list};
 
 use crate::answer::Answer;
 use crate::refusal::Refusal;
+
+// The buffer of the answers, and how many bytes of it are used.
+#[derive(Drop)]
+pub(crate) struct Output<'a> {
+    pub(crate) answers: &'a mut [u8],
+    pub(crate) used: usize,
+}
 
 // Writes an answer behind the first `used` bytes, and says how many are used then.
 fn write_answer(answers: &mut [u8], used: usize, answer: Answer) -> usize
@@ -20,34 +28,21 @@ fn write_answer(answers: &mut [u8], used: usize, answer: Answer) -> usize
     end
 }
 
-// The answer to the command at `place`, if it has one.
-fn reply(place: usize, res: Result<Option<Answer>, Refusal>) -> Option<Answer>
-    requires { place ≤ 4096 }
+// The answer to what stands at `place`, if it has one.
+fn reply(place: u32, res: Result<Option<Answer>, Refusal>) -> Option<Answer>
     ensures { option_to_list result ≡ replies place res }
 {
-    match res {
-        Ok(answer) => answer,
-        Err(refusal) => Some(Answer::Refused {
-            refusal,
-            place: place as u32,
-        }),
-    }
+    res.unwrap_or_else(|refusal| Some(Answer::Refused { refusal, place }))
 }
 
-// Writes the answer to the command at `place`, if it has one, and says how many bytes are used then.
-pub(crate) fn respond(
-    answers: &mut [u8],
-    used: usize,
-    place: usize,
-    res: Result<Option<Answer>, Refusal>,
-) -> usize
-    requires place { place ≤ 4096 }
-    requires room { used + length (answers_bytes (replies place res)) ≤ length answers.old }
-    ensures end { result ≡ used + length (answers_bytes (replies place res)) }
-    ensures buffer { answers.new ≡ put used (answers_bytes (replies place res)) answers.old }
-{
-    match reply(place, res) {
-        None => used,
-        Some(answer) => write_answer(answers, used, answer),
+impl Output<'_> {
+    // Writes the answer to what stands at `place`, if it has one.
+    pub(crate) fn respond(&mut self, place: u32, res: Result<Option<Answer>, Refusal>)
+        requires { self.old.used + length (answers_bytes (replies place res)) ≤ length self.old.answers.now }
+        ensures { Writes (answers_bytes (replies place res)) self.old self.new }
+    {
+        if let Some(answer) = reply(place, res) {
+            self.used = write_answer(self.answers, self.used, answer);
+        }
     }
 }

@@ -1,97 +1,51 @@
 // A whole line.
-ghost use Rattle.std.specs.Prelude.{◌≡◌, ◌*◌, ◌≤◌, length, IfOk, None as Nothing, OnOk};
+ghost use Rattle.std.specs.Prelude.{◌≡◌, ◌-◌, ◌*◌, ◌≤◌, length, IfOk, OnOk};
 ghost use Rattle.line.specs.Buffers.{put};
 ghost use Rattle.line.specs.Grants.{LineLawful};
-ghost use Rattle.line.specs.Lines.{line_run, unchosen_from, sized, lent};
+ghost use Rattle.line.specs.Beginnings.{whole_answers};
+ghost use Rattle.line.specs.Lines.{line_run, lent};
 ghost use Rattle.std.specs.Result.{result_map_both};
-ghost use Rattle.books.specs.Views.{office_view, table_view};
 
-use crate::begin::{Beginning, until_choice};
-use crate::refusal::{LineFault, Refusal};
+use crate::begin::until_choice;
+use crate::commands::Commands;
+use crate::output::Output;
+use crate::refusal::Refusal;
 use crate::serve::serve;
-use crate::session::Session;
-use books::{OfficeBook, PadCountError, TableBook, open_books};
+use crate::session::Desk;
+use books::{PadCountError, open_books};
 use families::{FamilyName, Mmh, MmhStar, Nh, Nhs};
 use jobs::read_card;
 use pads::{PadSource, Sheet, read_sheet};
 
-// The most bytes of a line.
-const MOST_BYTES: usize = 4096;
-
 // The most pads of a sheet.
 const MOST_PADS: usize = 256;
 
-// The most bytes that a byte of the line may answer.
-const ROOM: usize = 13;
-
-fn check_sizes(line: usize, answers: usize) -> Result<(), LineFault>
-    ensures { result ≡ sized line answers }
-{
-    if line > MOST_BYTES {
-        return Err(LineFault::LongLine);
-    }
-    if answers < ROOM * line {
-        return Err(LineFault::ShortBuffer);
-    }
-    Ok(())
-}
-
 // Answers a whole line, and says how many bytes that takes.
 fn answer_line<S: PadSource + Drop>(
-    card: [u32; 164],
-    office: OfficeBook<S>,
-    table: TableBook<S>,
-    line: &[u8],
+    desk: Desk<S>,
+    mut commands: Commands,
     answers: &mut [u8],
 ) -> usize
-    requires short { length line.now ≤ 4096 }
-    requires room { 13 * length line.now ≤ length answers.old }
-    ensures end { result ≡ length (unchosen_from card line.now 0 (record { books = record { office = office_view S.pads office; table = table_view S.pads table }; job = Nothing })) }
-    ensures buffer { answers.new ≡ put 0 (unchosen_from card line.now 0 (record { books = record { office = office_view S.pads office; table = table_view S.pads table }; job = Nothing })) answers.old }
+    requires { 13 * (length commands.line.now - commands.at) ≤ length answers.old }
+    ensures end { result ≡ length (whole_answers S.pads desk commands.entry) }
+    ensures buffer { answers.new ≡ put 0 (whole_answers S.pads desk commands.entry) answers.old }
 {
-    match until_choice(line, answers) {
-        Beginning::Ended { used } => used,
-        Beginning::Chosen { family, at, used } => match family {
-            FamilyName::Nh => serve(
-                Session::<Nh, S>::new(card, office, table),
-                line,
-                at,
-                answers,
-                used,
-            ),
-            FamilyName::Nhs => serve(
-                Session::<Nhs, S>::new(card, office, table),
-                line,
-                at,
-                answers,
-                used,
-            ),
-            FamilyName::MmhStar => serve(
-                Session::<MmhStar, S>::new(card, office, table),
-                line,
-                at,
-                answers,
-                used,
-            ),
-            FamilyName::Mmh => serve(
-                Session::<Mmh, S>::new(card, office, table),
-                line,
-                at,
-                answers,
-                used,
-            ),
-        },
+    let mut output = Output { answers, used: 0 };
+    match until_choice(&mut commands, &mut output) {
+        None => {}
+        Some(FamilyName::Nh) => serve::<Nh, S>(desk, commands, &mut output),
+        Some(FamilyName::Nhs) => serve::<Nhs, S>(desk, commands, &mut output),
+        Some(FamilyName::MmhStar) => serve::<MmhStar, S>(desk, commands, &mut output),
+        Some(FamilyName::Mmh) => serve::<Mmh, S>(desk, commands, &mut output),
     }
+    output.used
 }
 
 // The first places, which hold the pads.
 fn lend(places: &[u64], count: usize) -> Result<Sheet<'_>, PadCountError>
     ensures { result_map_both (λ s. s.pads.now) (λ e. e) result ≡ lent places.now count }
 {
-    if count > places.len() {
-        return Err(PadCountError);
-    }
-    Ok(Sheet::new(&places[0..count]))
+    places.get(..count).map(Sheet::new).ok_or(PadCountError)
 }
 
 // Runs a line over a key card and a sheet of pads, both as bytes, and writes the answers to the front of the buffer. The
@@ -107,11 +61,16 @@ pub fn run_line(
     ensures within { IfOk result (λ count. count ≤ length answers.old) }
     ensures law { OnOk result (LineLawful card.now sheet.now line.now) }
 {
-    check_sizes(line.len(), answers.len())?;
+    let commands = Commands::new(line, answers.len())?;
     let card = read_card(card)?;
     let mut places = [0u64; MOST_PADS];
     let count = read_sheet(sheet, &mut places)?;
     let pads = lend(&places, count)?;
     let (office, table) = open_books(pads, pads)?;
-    Ok(answer_line(card, office, table, line, answers))
+    let desk = Desk {
+        card,
+        office,
+        table,
+    };
+    Ok(answer_line(desk, commands, answers))
 }

@@ -13,25 +13,26 @@ use families::Family;
 use jobs::{ClosedJob, OpenJob};
 use pads::PadSource;
 
+// The key card, and the books of the two ends.
+#[derive(Drop)]
+pub(crate) struct Desk<S: PadSource> {
+    pub(crate) card: [u32; 164],
+    pub(crate) office: OfficeBook<S>,
+    pub(crate) table: TableBook<S>,
+}
+
 #[derive(Drop)]
 pub(crate) struct Session<F: Family, S: PadSource> {
-    card: [u32; 164],
-    office: OfficeBook<S>,
-    table: TableBook<S>,
+    desk: Desk<S>,
     job: Option<OpenJob<F>>,
 }
 
 impl<F: Family, S: PadSource> Session<F, S> {
     // No job is open yet.
-    pub(crate) fn new(card: [u32; 164], office: OfficeBook<S>, table: TableBook<S>) -> Session<F, S>
-        ensures { result ≡ record { card = card; office = office; table = table; job = Nothing } }
+    pub(crate) fn new(desk: Desk<S>) -> Session<F, S>
+        ensures { result ≡ record { desk = desk; job = Nothing } }
     {
-        Session {
-            card,
-            office,
-            table,
-            job: None,
-        }
+        Session { desk, job: None }
     }
 
     fn open(&mut self, label: u32) -> Result<Option<Answer>, Refusal>
@@ -40,68 +41,61 @@ impl<F: Family, S: PadSource> Session<F, S> {
         if self.job.is_some() {
             return Err(Refusal::Session(SessionFault::Job));
         }
-        let job = OpenJob::<F>::open(&self.card, label)?;
-        self.job = Some(job);
+        self.job = Some(OpenJob::<F>::open(&self.desk.card, label)?);
         Ok(None)
     }
 
     fn feed(&mut self, piece: &[u8]) -> Result<Option<Answer>, Refusal>
         ensures { Does S.pads F.meaning self.old self.new result (feeds piece.now) }
     {
-        match self.job.as_mut() {
-            None => Err(Refusal::Session(SessionFault::Job)),
-            Some(job) => {
-                job.feed(piece)?;
-                Ok(None)
-            }
-        }
+        let job = self.job.as_mut().ok_or(SessionFault::Job)?;
+        job.feed(piece)?;
+        Ok(None)
     }
 
     // Ends the open job.
     fn close(&mut self) -> Result<ClosedJob<F>, SessionFault>
         ensures rest { self.new ≡ idle self.old }
-        ensures answer { (job : Option Job) → Stands F.meaning self.old job → Ends F.meaning self.old.card job result }
+        ensures answer { (job : Option Job) → Stands F.meaning self.old job → Ends F.meaning self.old.desk.card job result }
     {
-        match self.job.take() {
-            None => Err(SessionFault::Job),
-            Some(job) => Ok(job.close()),
-        }
+        let job = self.job.take().ok_or(SessionFault::Job)?;
+        Ok(job.close())
     }
 
     fn seal(&mut self) -> Result<Option<Answer>, Refusal>
-        ensures { Does S.pads F.meaning self.old self.new result (seals F.meaning self.old.card) }
+        ensures { Does S.pads F.meaning self.old self.new result (seals F.meaning self.old.desk.card) }
     {
         let job = self.close()?;
-        let pad = self.office.take()?;
-        let (number, tag) = self.office.seal(pad, &job)?;
+        let pad = self.desk.office.take()?;
+        let (number, tag) = self.desk.office.seal(pad, &job)?;
         Ok(Some(Answer::Sealed { number, tag }))
     }
 
     fn check(&mut self, number: u32, tag: u64) -> Result<Option<Answer>, Refusal>
-        ensures { Does S.pads F.meaning self.old self.new result (checks F.meaning self.old.card number tag) }
+        ensures { Does S.pads F.meaning self.old self.new result (checks F.meaning self.old.desk.card number tag) }
     {
         let job = self.close()?;
-        self.table.check(&job, number, tag)?;
+        self.desk.table.check(&job, number, tag)?;
         Ok(Some(Answer::Accepted { number }))
     }
 
     fn strike(&mut self) -> Result<Option<Answer>, Refusal>
         ensures { Does S.pads F.meaning self.old self.new result strikes }
     {
-        let pad = self.office.take()?;
+        let pad = self.desk.office.take()?;
         let number = pad.number();
-        self.office.strike(pad)?;
+        self.desk.office.strike(pad)?;
         Ok(Some(Answer::Struck { number }))
     }
 
     pub(crate) fn obey(&mut self, command: Command) -> Result<Option<Answer>, Refusal>
-        ensures { Does S.pads F.meaning self.old self.new result (obeyed F.meaning self.old.card (order_of command.entry)) }
+        ensures { Does S.pads F.meaning self.old self.new result (obeyed F.meaning self.old.desk.card (order_of command.entry)) }
     {
         match command {
-            Command::Choose { family: _ } => Err(Refusal::Session(SessionFault::Choice)),
+            Command::Choose { .. } => Err(Refusal::Session(SessionFault::Choice)),
             Command::Open { label } => self.open(label),
             Command::Byte { byte } => self.feed(&[byte]),
-            Command::Block { bytes, place: _ } => self.feed(bytes),
+            Command::Block { bytes, .. } => self.feed(bytes),
             Command::Seal => self.seal(),
             Command::Strike => self.strike(),
             Command::Check { number, tag } => self.check(number, tag),

@@ -16,19 +16,20 @@ returns c =
     let line : List ℕ = c.args.line.now in
     let buffer : List ℕ = c.args.answers.now in
     let words : List ℕ = c.in_ok-card.card in
+    let all = c.in_ok-commands.ensures.start in
     let at_first =
     start c.args.card.now c.args.sheet.now words c.read_sheet.new.places (replicate 256 0)
     c.in_ok-pads.pads.pads.now (length line) (length buffer) c.in_ok-count.count _
-    c.in_ok-check_sizes.ensures c.in_ok-card.ensures c.in_ok-count.ensures.answer
+    c.in_ok-commands.ensures.sizes c.in_ok-card.ensures c.in_ok-count.ensures.answer
     c.in_ok-count.ensures.places c.read_sheet.auto.places refl c.in_ok-pads.ensures
     c.in_ok-office.ensures.given
     in
     record {
       answer =
-          ap Ok (c.answer_line.ensures.end ∙ ap (λ (b : Books). length (unchosen_from words line 0 (record { books = b; job = None }))) at_first.1)
+          ap Ok (rw (all.same_line, all.first_place) at c.answer_line.ensures.end ∙ ap (λ (b : Books). length (unchosen_from words line 0 (record { books = b; job = None }))) at_first.1)
           ∙ sym (ap (λ r. (ran_with r line buffer).0) at_first.0);
       buffer =
-          c.answer_line.ensures.buffer
+          rw (all.same_line, all.first_place) at c.answer_line.ensures.buffer
           ∙ ap (λ (b : Books). put 0 (unchosen_from words line 0 (record { books = b; job = None })) buffer) at_first.1
           ∙ sym (ap (λ r. (ran_with r line buffer).1) at_first.0);
       within =
