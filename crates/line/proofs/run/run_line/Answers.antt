@@ -24,13 +24,13 @@ returns c =
     c.in_ok-count.ensures.places c.read_sheet.auto.places refl c.in_ok-pads.ensures
     c.in_ok-office.ensures.given
     in
+    let said : Books → List ℕ = λ b. unchosen_from words line 0 (record { books = b; job = None }) in
     record {
       answer =
-          ap Ok (rw (all.same_line, all.first_place) at c.answer_line.ensures.end ∙ ap (λ (b : Books). length (unchosen_from words line 0 (record { books = b; job = None }))) at_first.1)
+          ap Ok (rw (all.same_line, all.first_place) at c.answer_line.ensures.end ∙ ap (λ b. length (said b)) at_first.1)
           ∙ sym (ap (λ r. (ran_with r line buffer).0) at_first.0);
       buffer =
-          rw (all.same_line, all.first_place) at c.answer_line.ensures.buffer
-          ∙ ap (λ (b : Books). put 0 (unchosen_from words line 0 (record { books = b; job = None })) buffer) at_first.1
+          rw (all.same_line, all.first_place) at c.answer_line.ensures.buffer ∙ ap (λ b. put 0 (said b) buffer) at_first.1
           ∙ sym (ap (λ r. (ran_with r line buffer).1) at_first.0);
       within = let same = c.answer_line.ensures.buffer in let end = c.answer_line.ensures.end in grind (arith, common_steps, c.answer_line.auto.answers);
       law =
