@@ -7,6 +7,7 @@ use Rattle.jobs.specs.Reading.{Bytes}
 use Rattle.jobs.specs.Roots.{Job, Proper, root_tag}
 use Rattle.jobs.specs.declared.open_job.TooLong.{TooLong}
 use Rattle.std.proofs.lemmas.Bool.{leb-true}
+use Rattle.std.proofs.ByRecursion.{All-append}
 use Rattle.std.specs.List.{flat_map, AllByRecursion}
 use Rattle.std.specs.Result.{result_map_both}
 use Rattle.books.specs.Office.{Office, taken, sealed, struck}
@@ -70,10 +71,6 @@ abbrev pub JobProper : Option Job → Type 0
 JobProper None = Unit {0}
 JobProper (Some job) = Proper job
 
-bytes-append : (xs ys : List ℕ) → Bytes xs → Bytes ys → Bytes (xs ++ ys)
-bytes-append [] ys h k = k
-bytes-append (x ∷ xs) ys h k = (h.0, bytes-append xs ys h.1 k)
-
 opens_proper : (job : Option Job) (label : ℕ) (s : State) → s.job ≡ job → label < 2 ^ 32 → JobProper job → JobProper (opens_by job label s).1.job
 opens_proper None label s e l h = record { label_word = l; bytes = tt; long = omega arith }
 opens_proper (Some job) label s e l h = subst JobProper (sym e) h
@@ -88,7 +85,7 @@ feeds_proper :
 feeds_proper true job piece s e h proper bytes =
     record {
       label_word = proper.label_word;
-      bytes = bytes-append job.document piece proper.bytes bytes;
+      bytes = All-append (λ b. b < 256) job.document piece proper.bytes bytes;
       long =
           let few = leb-true (length job.document + length piece) 8388608 e in
           let n = length-append job.document piece in

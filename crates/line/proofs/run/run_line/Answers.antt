@@ -1,4 +1,4 @@
-use Rattle.std.proofs.Common.{ℕ, List, length, replicate, None, Ok, sym, refl, ap, ◌∙◌}
+use Rattle.std.proofs.Common.{ℕ, List, length, replicate, None, Ok, arith, sym, refl, ap, ◌∙◌}
 use Rattle.books.specs.Runs.{Books}
 use Rattle.pads.specs.Stored.{pads_of}
 use Rattle.line.specs.Buffers.{put}
@@ -7,7 +7,7 @@ use Rattle.jobs.proofs.Feeding.{bytes_typed}
 use Rattle.jobs.specs.Reading.{byte_words}
 use Rattle.line.proofs.Admissions.{start, card_read_well}
 use Rattle.line.proofs.Lawful.{lines_lawful}
-use Rattle.line.proofs.Puts.{put_within}
+use Rattle.std.proofs.lemmas.Grind.{common_steps}
 use Rattle.line.proofs.run.run_line.Goals as goal
 
 pub returns : goal.returns
@@ -24,17 +24,15 @@ returns c =
     c.in_ok-count.ensures.places c.read_sheet.auto.places refl c.in_ok-pads.ensures
     c.in_ok-office.ensures.given
     in
+    let said : Books → List ℕ = λ b. unchosen_from words line 0 (record { books = b; job = None }) in
     record {
       answer =
-          ap Ok (rw (all.same_line, all.first_place) at c.answer_line.ensures.end ∙ ap (λ (b : Books). length (unchosen_from words line 0 (record { books = b; job = None }))) at_first.1)
+          ap Ok (rw (all.same_line, all.first_place) at c.answer_line.ensures.end ∙ ap (λ b. length (said b)) at_first.1)
           ∙ sym (ap (λ r. (ran_with r line buffer).0) at_first.0);
       buffer =
-          rw (all.same_line, all.first_place) at c.answer_line.ensures.buffer
-          ∙ ap (λ (b : Books). put 0 (unchosen_from words line 0 (record { books = b; job = None })) buffer) at_first.1
+          rw (all.same_line, all.first_place) at c.answer_line.ensures.buffer ∙ ap (λ b. put 0 (said b) buffer) at_first.1
           ∙ sym (ap (λ r. (ran_with r line buffer).1) at_first.0);
-      within =
-          put_within _ buffer c.answer_line.new.answers c.answer_line.result c.answer_line.auto.answers c.answer_line.ensures.buffer
-          c.answer_line.ensures.end;
+      within = let same = c.answer_line.ensures.buffer in let end = c.answer_line.ensures.end in grind (arith, common_steps, c.answer_line.auto.answers);
       law =
           lines_lawful (byte_words c.args.card.now) (pads_of c.args.sheet.now) line
           (card_read_well c.args.card.now (bytes_typed c.args.card.now c.type_inv.card) at_first.2) at_first.3
