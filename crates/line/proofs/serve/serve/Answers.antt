@@ -7,7 +7,7 @@ use Rattle.line.proofs.serve.serve.Goals as goal
 pub loop-place-init : goal.loop-place-init
 loop-place-init g c =
     rw c.into_iter-place-iterator.ensures.into_iter_gives
-    (serves_start g.F.Family.meaning g.S.PadSource.pads c.args.desk c.new-session.result c.args.commands c.args.output.now c.new-session.ensures c.requires)
+    (serves_start g.F.Family.meaning (λ s. s.pads.now) c.args.desk c.new-session.result c.args.commands c.args.output.now c.new-session.ensures c.requires)
 
 pub respond-requires : goal.respond-requires
 respond-requires g c = omega (arith, room_on c.loop-place.invariant c.in-Some.ensures.steps, reply_short)
@@ -22,7 +22,7 @@ pub loop-place-preserved : goal.loop-place-preserved
 loop-place-preserved g c =
     let on = c.loop-place.invariant in
     let step = c.in-Some.ensures.steps in
-    serves_on g.F.Family.meaning g.S.PadSource.pads on (order_of c.in-Ok.command) step (sym (rw c.in-Ok.is at step.read)) (c.obey.ensures on.job on.stands) c.respond.ensures
+    serves_on g.F.Family.meaning (λ s. s.pads.now) on (order_of c.in-Ok.command) step (sym (rw c.in-Ok.is at step.read)) (c.obey.ensures on.job on.stands) c.respond.ensures
 
 pub returns-in-Err : goal.returns-in-Err
 returns-in-Err g c =
