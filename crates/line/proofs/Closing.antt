@@ -1,0 +1,75 @@
+-- What a session does once its job was closed.
+use Rattle.std.proofs.Common.{◌≡◌, ℕ, List, Some, None, Ok, Err, Option, Result, ap, rules}
+use Rattle.families.specs.Meanings.{Meaning}
+use Rattle.families.specs.declared.family.Family.{Ghosts}
+use Rattle.jobs.specs.Roots.{Job}
+use Rattle.jobs.specs.declared.state.ClosedJob.{ClosedJob}
+use Rattle.books.specs.Office.{taken, sealed, struck}
+use Rattle.books.specs.Table.{checked}
+use Rattle.books.specs.Views.{office_view, table_view}
+use Rattle.books.specs.declared.refusals.CheckError.{CheckError}
+use Rattle.books.specs.declared.office_book.OfficeBook.{OfficeBook}
+use Rattle.books.specs.declared.pad.Pad.{Pad}
+use Rattle.books.specs.declared.refusals.TakeError.{TakeError}
+use Rattle.books.specs.declared.refusals.WrongPad.{WrongPad}
+use Rattle.books.specs.declared.table_book.TableBook.{TableBook}
+use Rattle.line.specs.Faults.{take_refusal, check_refusal}
+use Rattle.line.specs.Sessions.{seals, checks, strikes}
+use Rattle.line.specs.Standing.{Stands, Ends, Does, idle}
+use Rattle.line.specs.declared.answer.Answer.TheVariants.{Sealed, Accepted}
+use Rattle.line.specs.declared.refusal.Refusal.TheVariants as refusal
+use Rattle.line.specs.declared.refusal.BookFault.TheVariants as book
+use Rattle.line.specs.declared.session.Session.{Session}
+use Rattle.std.specs.Result.{result_map_both, IsErrAnd}
+
+-- a result that is an error of which something is known
+pub error_is : {T E : Type 0} (r : Result T E) (e : E) → IsErrAnd r (λ x. x ≡ e) → r ≡ Err e
+error_is (Ok x) e h = absurd h
+error_is (Err x) e h = ap Err h
+
+module _ {F S : Type 0} {G : Ghosts F} (m : Meaning) (pads : S → List ℕ) where
+  pub checks_closed :
+      (before after : Session F S G) (closed : ClosedJob F) (number tag : ℕ) (table : TableBook S) (r : Result (Unit {0}) CheckError) →
+      after ≡ idle before →
+      ((job : Option Job) → Stands m before job → Ends m before.desk.card job (Ok closed)) →
+      r ≡ (checked m.modulus closed.root number tag (table_view pads after.desk.table)).0 →
+      table_view pads table ≡ (checked m.modulus closed.root number tag (table_view pads after.desk.table)).1 →
+      Does pads m before (record { desk = record { card = after.desk.card; office = after.desk.office; table = table }; job = after.job })
+      (result_map_both (λ _. Some (Accepted number)) check_refusal r) (checks m before.desk.card number tag)
+  checks_closed before after closed number tag table r rest ends answer book None stands = search rules
+  checks_closed before after closed number tag table r rest ends answer book (Some job) stands = search rules
+
+  pub seals_refused :
+      (before after : Session F S G) (closed : ClosedJob F) (office : OfficeBook S) (e : TakeError) →
+      after ≡ idle before →
+      ((job : Option Job) → Stands m before job → Ends m before.desk.card job (Ok closed)) →
+      Err e ≡ (taken (office_view pads after.desk.office)).0 →
+      office_view pads office ≡ (taken (office_view pads after.desk.office)).1 →
+      Does pads m before (record { desk = record { card = after.desk.card; office = office; table = after.desk.table }; job = after.job })
+      (Err (take_refusal e)) (seals m before.desk.card)
+  seals_refused before after closed office e rest ends answer book None stands = search rules
+  seals_refused before after closed office e rest ends answer book (Some job) stands = search rules
+
+  pub seals_closed :
+      (before after : Session F S G) (closed : ClosedJob F) (took office : OfficeBook S) (pad : Pad) (r : Result (ℕ × ℕ) WrongPad) →
+      after ≡ idle before →
+      ((job : Option Job) → Stands m before job → Ends m before.desk.card job (Ok closed)) →
+      Ok pad ≡ (taken (office_view pads after.desk.office)).0 →
+      office_view pads took ≡ (taken (office_view pads after.desk.office)).1 →
+      r ≡ (sealed m.modulus closed.root pad (office_view pads took)).0 →
+      office_view pads office ≡ (sealed m.modulus closed.root pad (office_view pads took)).1 →
+      Does pads m before (record { desk = record { card = after.desk.card; office = office; table = after.desk.table }; job = after.job })
+      (result_map_both (λ x. Some (Sealed x.0 x.1)) (λ _. refusal.Book book.WrongPad) r) (seals m before.desk.card)
+  seals_closed before after closed took office pad r rest ends took_answer took_book answer book None stands = search rules
+  seals_closed before after closed took office pad r rest ends took_answer took_book answer book (Some job) stands = search rules
+
+  -- a striking leaves the open job as it is
+  pub strikes_refused :
+      (before : Session F S G) (took office : OfficeBook S) (pad : Pad) (e : WrongPad) →
+      Ok pad ≡ (taken (office_view pads before.desk.office)).0 →
+      office_view pads took ≡ (taken (office_view pads before.desk.office)).1 →
+      Err e ≡ (struck pad (office_view pads took)).0 →
+      office_view pads office ≡ (struck pad (office_view pads took)).1 →
+      Does pads m before (record { desk = record { card = before.desk.card; office = office; table = before.desk.table }; job = before.job })
+      (Err (refusal.Book book.WrongPad)) strikes
+  strikes_refused before took office pad e took_answer took_book answer book job stands = search rules
