@@ -35,6 +35,7 @@ impl Pairing for Nhs {
     }
 }
 
+// As NH's but for meaning, count and law: one impl for both would need another trait to hold these three.
 impl Family for Nhs {
     ghost meaning = { nhs };
 
