@@ -1,8 +1,9 @@
 -- Pads that are read from bytes, and a list whose front is written over, place by place.
-use Rattle.std.proofs.Common.{◌≡◌, ℕ, zero, suc, ◌+◌, ◌*◌, ◌/◌, ◌<◌, ◌≤◌, ◌≢◌, List, [], length, get_or, take, drop, set, sym, refl, ap, ◌∙◌, add-zero, zero-add, arith, below_more, get_or-take, get_or-set_same, get_or-set_other}
+use Rattle.std.proofs.Common.{◌≡◌, ℕ, zero, suc, ◌+◌, ◌*◌, ◌/◌, ◌<◌, ◌≤◌, ◌≢◌, min, List, [], length, get_or, take, drop, set, sym, refl, ap, ◌∙◌, ⊎_elim, add-zero, zero-add, arith, below_more, get_or-take, get_or-set_same, get_or-set_other}
 use Rattle.std.specs.Int.{w64, from_le_bytes}
 use Rattle.std.specs.Simd.{first_chunks}
 use Rattle.std.proofs.lemmas.Grind.{common_steps, same_number_lists}
+use Rattle.std.proofs.lemmas.Bool.{cases_lt}
 use Rattle.std.proofs.lemmas.List.{get_or-drop, drop-drop}
 use Rattle.std.proofs.lemmas.List.FromFn.{length-map-range_with_len, get_or-map-range_with_len}
 use Rattle.pads.specs.Stored.{pad_at, pads_of, written}
@@ -34,8 +35,14 @@ module _ (ps xs ys : List ℕ) (i : ℕ) (h : Filled ps xs ys i) where
   pub filled_past : length ps ≤ i → i < length xs → get_or ys i 0 ≡ get_or (written ps xs) i 0
   filled_past past low = h.back i (omega arith) ∙ sym (get_or-written_high ps xs i past low)
 
-  pub filled_all : length ys ≡ length xs → length xs ≤ i → ys ≡ written ps xs
-  filled_all long all = same_number_lists ys (written ps xs) (long ∙ sym (length-written ps xs)) (λ k low. h.front k (omega arith))
+  -- as far as one of the lists goes
+  pub filled_all : length ys ≡ length xs → min (length ps) (length xs) ≤ i → ys ≡ written ps xs
+  filled_all long all =
+      same_number_lists ys (written ps xs) (long ∙ sym (length-written ps xs)) λ k low.
+      ⊎_elim
+      (h.front k)
+      (λ (past : i ≤ k). h.back k past ∙ sym (get_or-written_high ps xs k (omega arith) (omega arith)))
+      (cases_lt k i)
 
 -- ---- pads as bytes
 
