@@ -8,4 +8,3 @@ asked_past c n ps high = grind (arith, common_steps)
 
 pub asked_take : (c n : ℕ) (ps : List ℕ) → n < c → asked (take c ps) n ≡ asked ps n
 asked_take c n ps low = grind (arith, common_steps)
-
