@@ -14,17 +14,17 @@ use Rattle.books.specs.Table.{laid}
 use Rattle.books.specs.declared.fate.Fate.TheVariants.{Sealed, Struck}
 use Rattle.books.proofs.Counts.{times_same, times_other, times_inside, times_above}
 use Rattle.books.proofs.Marks.{Marks, marks_opened}
-use Rattle.books.proofs.Moves.{outs, none_some, some_same, Last, Moves}
+use Rattle.books.proofs.Moves.{outs, Last, Moves}
 use Rattle.books.proofs.Passes.{Passes}
 use Rattle.books.proofs.Steps.{Tagged, run_moves, run_marks, run_passes, run_tagged}
 use Rattle.books.proofs.Tags.{apart, apart_below, tags_apart, roots_apart}
 
 outs_cases : (n : ℕ) (o : Option ℕ) → ((outs n o ≡ 0) × (o ≢ Some n)) ⊎ ((outs n o ≡ 1) × (o ≡ Some n))
-outs_cases n None = inl (refl, none_some n)
+outs_cases n None = inl (refl, λ e. cc)
 outs_cases n (Some k) =
     ⊎_elim
     (λ (e : k ≡ n). inr (times_same k n e, ap Some e))
-    (λ (ne : k ≡ n → ⊥). inl (times_other k n ne, λ e. ne (some_same k n e)))
+    (λ (ne : k ≡ n → ⊥). inl (times_other k n ne, λ e. ne (cc)))
     (cases_eq k n)
 
 once_from :
@@ -56,7 +56,7 @@ once_from es ps d few moves seals strikes passes =
           let y : times n (range_with_len 0 (length ts)) ≡ 0 = times_above n 0 (length ts) (omega arith) in
           omega arith;
       last_out = λ n e.
-          let start : Last None 0 = λ k f. absurd (none_some k f) in
+          let start : Last None 0 = λ k f. cc in
           let x = moves.last start n e in
           let y = moves.advances in
           omega arith;

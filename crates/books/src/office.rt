@@ -1,5 +1,5 @@
 // The calls on the office book.
-ghost use Rattle.std.specs.Prelude.{◌≡◌, ◌<◌, length, OnOk, slice_set};
+ghost use Rattle.std.specs.Prelude.{◌≡◌, ◌<◌, length, OnOk};
 ghost use Rattle.books.specs.Office.{opened, taken, held, spent, used, struck, sealed, called_in};
 ghost use Rattle.books.specs.Opening.{opening};
 ghost use Rattle.books.specs.Views.{office_view};
@@ -14,15 +14,6 @@ use crate::refusals::{NoneOut, PadCountError, TakeError, WrongPad};
 use families::Family;
 use jobs::ClosedJob;
 use pads::{NoSuchPad, PadSource};
-
-// Writes where there is a place.
-fn write_at(fates: &mut [Fate], at: usize, fate: Fate)
-    ensures { fates.new ≡ slice_set fates.old at fate }
-{
-    if at < fates.len() {
-        fates[at] = fate;
-    }
-}
 
 impl<S: PadSource> OfficeBook<S> {
     // A book over 1 to 256 pads, with none taken.
@@ -57,7 +48,10 @@ impl<S: PadSource> OfficeBook<S> {
         ensures { office_view S.pads self.new ≡ spent fate number (office_view S.pads self.old) }
     {
         self.out = None;
-        write_at(&mut self.fates, number as usize, fate);
+        // After a write through get_mut a proof knows no element, so the place is tested and written by its number.
+        if (number as usize) < MOST_PADS {
+            self.fates[number as usize] = fate;
+        }
     }
 
     // Hands out the next number's pad.
@@ -65,26 +59,21 @@ impl<S: PadSource> OfficeBook<S> {
         ensures answer { result ≡ (taken (office_view S.pads self.old)).0 }
         ensures book { office_view S.pads self.new ≡ (taken (office_view S.pads self.old)).1 }
     {
-        let number = self.next;
-        match (self.out, self.pad(number)) {
-            (Some(_), _) => Err(TakeError::PadOut),
-            (None, Err(_)) => Err(TakeError::AllTaken),
-            (None, Ok(value)) => {
-                self.next = number + 1;
-                self.out = Some(number);
-                Ok(Pad { number, value })
-            }
+        if self.out.is_some() {
+            return Err(TakeError::PadOut);
         }
+        let number = self.next;
+        let value = self.pad(number).map_err(|_| TakeError::AllTaken)?;
+        self.next = number + 1;
+        self.out = Some(number);
+        Ok(Pad { number, value })
     }
 
     // Whether this is the pad that is out here.
     fn is_out(&self, pad: &Pad) -> bool
         ensures { result ≡ held pad.now (office_view S.pads self.now) }
     {
-        match (self.out, self.pad(pad.number)) {
-            (Some(number), Ok(value)) => number == pad.number && value == pad.value,
-            _ => false,
-        }
+        self.out == Some(pad.number) && self.pad(pad.number) == Ok(pad.value)
     }
 
     // Uses the pad up, and records what became of its number if it is out here.
@@ -94,12 +83,11 @@ impl<S: PadSource> OfficeBook<S> {
     {
         let out = self.is_out(&pad);
         let Pad { number, value: _ } = pad;
-        if out {
-            self.use_up(number, fate);
-            Ok(())
-        } else {
-            Err(WrongPad)
+        if !out {
+            return Err(WrongPad);
         }
+        self.use_up(number, fate);
+        Ok(())
     }
 
     // Seals a closed job with the pad, and gives the number and the tag.
@@ -126,12 +114,8 @@ impl<S: PadSource> OfficeBook<S> {
         ensures answer { result ≡ (called_in (office_view S.pads self.old)).0 }
         ensures book { office_view S.pads self.new ≡ (called_in (office_view S.pads self.old)).1 }
     {
-        match self.out {
-            None => Err(NoneOut),
-            Some(number) => {
-                self.use_up(number, Fate::Struck);
-                Ok(number)
-            }
-        }
+        let number = self.out.ok_or(NoneOut)?;
+        self.use_up(number, Fate::Struck);
+        Ok(number)
     }
 }

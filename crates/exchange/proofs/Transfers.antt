@@ -1,5 +1,5 @@
 -- What the three calls of a transfer answer, and the law at their run.
-use Rattle.std.proofs.Common.{◌≡◌, ℕ, ◌+◌, ◌%◌, Bool, true, false, cond, ◌&&◌, leb, ◌≢◌, List, [], ◌∷◌, length, get_or, None, Ok, Err, Result, sym, refl, ap, ◌∙◌, subst, inl, inr, arith}
+use Rattle.std.proofs.Common.{◌≡◌, ℕ, ◌+◌, ◌%◌, Bool, true, false, cond, ◌&&◌, leb, ◌≢◌, List, [], ◌∷◌, length, get_or, None, Ok, Err, Result, sym, refl, ap, ◌∙◌, subst, inl, inr}
 use Rattle.std.proofs.lemmas.Bool.{and_parts, leb-true, eq-eqb}
 use Rattle.std.specs.Result.{result_map_both}
 use Rattle.pads.specs.Sources.{asked}
@@ -22,9 +22,6 @@ use Rattle.books.specs.declared.refusals.WrongPad.{WrongPad}
 use Rattle.exchange.specs.Answers.{answered}
 use Rattle.exchange.specs.declared.refusal.Refusal.TheVariants.{Open, Check}
 
-ok_err : {B E : Type 0} (b : B) (e : E) → ◌≡◌ {A = Result B E} (Ok b) (Err e) → ⊥
-ok_err b e h = let z : ◌≡◌ {A = ℕ} 0 1 = cc in omega arith
-
 -- ---- the answers
 
 abbrev starting_by : Bool → Books → Result Books PadCountError
@@ -32,14 +29,14 @@ starting_by t c = cond (t && t) (Ok c) (Err (record {}))
 
 started_by : (t : Bool) (b c : Books) → Ok b ≡ starting_by t c → (t ≡ true) × (b ≡ c)
 started_by true b c h = (refl, cc)
-started_by false b c h = absurd (ok_err b (record {}) h)
+started_by false b c h = cc
 
 -- books that were opened over one list of pads
 pub opened_both : (ps : List ℕ) (b : Books) → Ok b ≡ starting ps ps → (fits (length ps) ≡ true) × (b ≡ started ps ps)
 opened_both ps b h = started_by (fits (length ps)) b (started ps ps) h
 
 not_by : (t : Bool) (e : PadCountError) (c : Books) → Err e ≡ starting_by t c → t ≡ false
-not_by true e c h = absurd (ok_err c e (sym h))
+not_by true e c h = cc
 not_by false e c h = refl
 
 pub not_opened : (modulus s a t : ℕ) (ps : List ℕ) (e : PadCountError) → Err e ≡ starting ps ps → answered modulus s a t ps ≡ Err (Open e)
@@ -66,7 +63,7 @@ module _ (ps : List ℕ) (fit : fits (length ps) ≡ true) where
   leaves = ap (λ x. x.1) first_taken
 
   pub not_refused : (e : TakeError) → Err e ≡ (taken (opened ps)).0 → ⊥
-  not_refused e h = ok_err (first ps) e (sym (h ∙ ap (λ x. x.0) first_taken))
+  not_refused e h = cc (h, ap (λ x. x.0) first_taken)
 
   first_held : held (first ps) (handed (opened ps)) ≡ true
   first_held = ap (λ x. is_pad x (get_or ps 0 0)) has_first ∙ eq-eqb (get_or ps 0 0) (get_or ps 0 0) refl
@@ -82,7 +79,7 @@ module _ (ps : List ℕ) (fit : fits (length ps) ≡ true) where
       let e : ◌≡◌ {A = Result (ℕ × ℕ) WrongPad} (Ok x) (Ok (0, (s + get_or ps 0 0) % modulus)) = h ∙ first_sealed modulus s in cc
 
   pub not_wrong : (modulus s : ℕ) (e : WrongPad) → Err e ≡ (sealed modulus s (first ps) (handed (opened ps))).0 → ⊥
-  not_wrong modulus s e h = ok_err _ e (sym (h ∙ first_sealed modulus s))
+  not_wrong modulus s e h = cc (h, first_sealed modulus s)
 
   -- the check decides
   pub decides : (modulus s a t : ℕ) → answered modulus s a t ps ≡ result_map_both (λ _. (0, (s + get_or ps 0 0) % modulus)) Check (checked modulus a 0 t (laid ps)).0

@@ -72,13 +72,8 @@ fn struck_numbers_are_listed(rt: HostRuntime) -> Result<(), Fail> {
 
 // What a taking is refused for.
 fn take_refusal(office: &mut OfficeBook<Sheet>) -> Option<TakeError> {
-    match office.take() {
-        Ok(pad) => {
-            let _ = office.strike(pad);
-            None
-        }
-        Err(refusal) => Some(refusal),
-    }
+    let taken = office.take();
+    taken.map(|pad| office.strike(pad)).err()
 }
 
 #[test]

@@ -1,67 +1,78 @@
--- A list whose front is written over, place by place.
-use Rattle.std.proofs.Common.{◌≡◌, ℕ, ◌+◌, ◌*◌, ◌/◌, ◌<◌, ◌≤◌, min, List, ◌++◌, map, length, get_or, take, drop, set, sym, refl, ap, ◌∙◌, subst, ⊎_elim, arith, length-set, take-append-drop, length-take, get_or-take}
-use Rattle.std.specs.List.{range_with_len}
-use Rattle.std.proofs.lemmas.List.FromFn.{fill_by_all, length-map-range_with_len, take-map-range_with_len}
-use Rattle.std.proofs.lemmas.List.Edits.{fill_by_more}
-use Rattle.std.proofs.lemmas.List.{drop_all, drop-drop, drop-set-lt, take_all}
+-- Pads that are read from bytes, and a list whose front is written over, place by place.
+use Rattle.std.proofs.Common.{◌≡◌, ℕ, zero, suc, ◌+◌, ◌*◌, ◌/◌, ◌<◌, ◌≤◌, ◌≢◌, min, List, [], length, get_or, take, drop, set, sym, refl, ap, ◌∙◌, ⊎_elim, add-zero, zero-add, arith, below_more, get_or-take, get_or-set_same, get_or-set_other}
+use Rattle.std.specs.Int.{w64, from_le_bytes}
+use Rattle.std.specs.Simd.{first_chunks}
+use Rattle.std.proofs.lemmas.Grind.{common_steps, same_number_lists}
 use Rattle.std.proofs.lemmas.Bool.{cases_lt}
+use Rattle.std.proofs.lemmas.List.{get_or-drop, drop-drop}
+use Rattle.std.proofs.lemmas.List.FromFn.{length-map-range_with_len, get_or-map-range_with_len}
 use Rattle.pads.specs.Stored.{pad_at, pads_of, written}
 
--- i places hold f of their number, and the others are as they were
-pub record Filled (f : ℕ → ℕ) (before after : List ℕ) (i : ℕ) : Type 0 where
-  pub long : length after ≡ length before
-  pub front : (k : ℕ) → k < i → get_or after k 0 ≡ f k
-  pub back : drop i after ≡ drop i before
+-- ---- a list that is written over
 
-pub filled_none : (f : ℕ → ℕ) (xs : List ℕ) → Filled f xs xs 0
-filled_none f xs = record { long = refl; front = λ k low. absurd (omega arith); back = refl }
+length-written : (ps xs : List ℕ) → length (written ps xs) ≡ length xs
+length-written ps xs = grind (arith, common_steps)
 
-pub filled_more : (f : ℕ → ℕ) (xs ys : List ℕ) (i v : ℕ) → i < length ys → v ≡ f i → Filled f xs ys i → Filled f xs (set ys i v) (i + 1)
-filled_more f xs ys i v low e h =
-    record {
-      long = length-set ys i v ∙ h.long;
-      front = λ k l. ap (λ w. get_or (set ys i w) k 0) e ∙ fill_by_more f ys i 0 low h.front k l;
-      back = drop-set-lt (i + 1) ys i v (omega arith) ∙ sym (drop-drop 1 i ys) ∙ ap (drop 1) h.back ∙ drop-drop 1 i xs;
-    }
+pub get_or-written_low : (ps xs : List ℕ) (k : ℕ) → k < length ps → k < length xs → get_or (written ps xs) k 0 ≡ get_or ps k 0
+get_or-written_low ps xs k l m = grind (arith, common_steps)
 
--- n values over as many places as there are
-module _ (f : ℕ → ℕ) (xs ys : List ℕ) (n : ℕ) (h : Filled f xs ys (min n (length xs))) where
-  abbrev i : ℕ
-  i = min n (length xs)
+get_or-written_high : (ps xs : List ℕ) (k : ℕ) → length ps ≤ k → k < length xs → get_or (written ps xs) k 0 ≡ get_or xs k 0
+get_or-written_high ps xs k l m = grind (arith, common_steps)
 
-  abbrev all : List ℕ
-  all = map f (range_with_len 0 n)
+-- i places are written over, and the others are as they were
+pub record Filled (ps before after : List ℕ) (i : ℕ) : Type 0 where
+  pub front : (k : ℕ) → k < i → get_or after k 0 ≡ get_or (written ps before) k 0
+  pub back : (k : ℕ) → i ≤ k → get_or after k 0 ≡ get_or before k 0
 
-  fronts : take i ys ≡ take i all
-  fronts =
-      let same = h.long in
-      let long : length (take i ys) ≡ i = simp length-take (omega arith) in
-      fill_by_all f (take i ys) i 0 long (λ k low. get_or-take i ys k 0 low ∙ h.front k low) ∙ sym (take-map-range_with_len f 0 n i (omega arith))
+module _ (ps xs ys : List ℕ) (i : ℕ) (h : Filled ps xs ys i) where
+  pub filled_more : (v : ℕ) → i < length ys → v ≡ get_or (written ps xs) i 0 → Filled ps xs (set ys i v) (i + 1)
+  filled_more v low e =
+      record {
+        front = below_more _ _ (λ k l. let ne : k ≢ i = omega arith in get_or-set_other ys i k v 0 ne ∙ h.front k l) (get_or-set_same ys i v 0 low ∙ e);
+        back = λ k l. let ne : k ≢ i = omega arith in get_or-set_other ys i k v 0 ne ∙ h.back k (omega arith);
+      }
 
-  -- the shorter list ends both
-  shorter : (take i all ≡ take (length xs) all) × (drop i xs ≡ drop (length all) xs)
-  shorter =
-      let long : length all ≡ n = length-map-range_with_len f 0 n in
+  pub filled_past : length ps ≤ i → i < length xs → get_or ys i 0 ≡ get_or (written ps xs) i 0
+  filled_past past low = h.back i (omega arith) ∙ sym (get_or-written_high ps xs i past low)
+
+  -- as far as one of the lists goes
+  pub filled_all : length ys ≡ length xs → min (length ps) (length xs) ≤ i → ys ≡ written ps xs
+  filled_all long all =
+      same_number_lists ys (written ps xs) (long ∙ sym (length-written ps xs)) λ k low.
       ⊎_elim
-      (λ (less : n < length xs).
-      let e : i ≡ n = omega arith in
-      (take_all i all (omega arith) ∙ sym (take_all (length xs) all (omega arith)), ap (λ k. drop k xs) (e ∙ sym long)))
-      (λ (more : length xs ≤ n).
-      let e : i ≡ length xs = omega arith in
-      (ap (λ k. take k all) e, drop_all i xs (omega arith) ∙ sym (drop_all (length all) xs (omega arith))))
-      (cases_lt n (length xs))
+      (h.front k)
+      (λ (past : i ≤ k). h.back k past ∙ sym (get_or-written_high ps xs k (omega arith) (omega arith)))
+      (cases_lt k i)
 
-  pub filled_all : ys ≡ written all xs
-  filled_all =
-      sym (take-append-drop i ys) ∙ ap (λ zs. zs ++ drop i ys) (fronts ∙ shorter.0) ∙ ap (λ zs. take (length xs) all ++ zs) (h.back ∙ shorter.1)
+-- ---- pads as bytes
 
--- places that hold the pads of the bytes, as far as they go
-pub pads_filled :
-    (bytes xs ys : List ℕ) (i : ℕ) →
-    i ≡ min (length bytes / 8) (length xs) →
-    Filled (λ k. pad_at bytes (8 * k)) xs ys i →
-    ys ≡ written (pads_of bytes) xs
+pub length-pads_of : (bytes : List ℕ) → length (pads_of bytes) ≡ length bytes / 8
 unfolding pads_of
-pads_filled bytes xs ys i e h =
-    let f : ℕ → ℕ = λ k. pad_at bytes (8 * k) in
-    filled_all f xs ys (length bytes / 8) (subst (Filled f xs ys) e h)
+length-pads_of bytes = length-map-range_with_len (λ i. pad_at bytes (8 * i)) 0 (length bytes / 8)
+
+get_or-pads_of : (bytes : List ℕ) (k : ℕ) → k < length bytes / 8 → get_or (pads_of bytes) k 0 ≡ pad_at bytes (8 * k)
+unfolding pads_of
+get_or-pads_of bytes k low = get_or-map-range_with_len (λ i. pad_at bytes (8 * i)) 0 (length bytes / 8) k k 0 low (zero-add k)
+
+-- the eight bytes of a pad
+get_or-first_chunks : (n k : ℕ) (bytes d : List ℕ) → k < n → get_or (first_chunks 8 n bytes) k d ≡ take 8 (drop (8 * k) bytes)
+get_or-first_chunks zero k bytes d low = absurd (omega arith)
+get_or-first_chunks (suc n) zero bytes d low = refl
+get_or-first_chunks (suc n) (suc k) bytes d low =
+    let e : 8 + 8 * k ≡ 8 * suc k = omega arith in
+    get_or-first_chunks n k (drop 8 bytes) d (omega arith) ∙ ap (take 8) (drop-drop (8 * k) 8 bytes ∙ ap (λ m. drop m bytes) e)
+
+pad_of_chunk : (bytes : List ℕ) (k : ℕ) → from_le_bytes w64 (take 8 (drop (8 * k) bytes)) ≡ pad_at bytes (8 * k)
+pad_of_chunk bytes k =
+    let b = λ (i : ℕ) (low : i < 8). get_or-take 8 (drop (8 * k) bytes) i 0 low ∙ get_or-drop (8 * k) bytes i 0 in
+    rw (b 0 (omega arith), b 1 (omega arith), b 2 (omega arith), b 3 (omega arith), b 4 (omega arith), b 5 (omega arith), b 6 (omega arith), b 7 (omega arith), add-zero (8 * k)) refl
+
+pub pad_read :
+    (bytes eight : List ℕ) (chunks : List (List ℕ)) (k : ℕ) →
+    k < length bytes / 8 →
+    chunks ≡ first_chunks 8 (length bytes / 8) bytes →
+    eight ≡ get_or chunks k [] →
+    from_le_bytes w64 eight ≡ get_or (pads_of bytes) k 0
+pad_read bytes eight chunks k low are is =
+    ap (from_le_bytes w64) (is ∙ ap (λ cs. get_or cs k []) are ∙ get_or-first_chunks (length bytes / 8) k bytes [] low)
+    ∙ pad_of_chunk bytes k ∙ sym (get_or-pads_of bytes k low)

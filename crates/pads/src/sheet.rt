@@ -24,11 +24,6 @@ impl<'a> PadSource for Sheet<'a> {
     }
 
     fn pad(&self, number: u32) -> Result<u64, NoSuchPad> {
-        let place = number as usize;
-        if place < self.pads.len() {
-            Ok(self.pads[place])
-        } else {
-            Err(NoSuchPad)
-        }
+        self.pads.get(number as usize).copied().ok_or(NoSuchPad)
     }
 }

@@ -12,12 +12,14 @@ pub struct SplitSheet<A, B> {
 
 impl<A: PadSource, B: PadSource> SplitSheet<A, B> {
     pub fn new(left: A, right: B) -> SplitSheet<A, B>
-        ensures { (result.left ≡ left) × (result.right ≡ right) }
+        ensures left { result.left ≡ left }
+        ensures right { result.right ≡ right }
     {
         SplitSheet { left, right }
     }
 }
 
+#[tactic(auto, using(crate::proofs::Answers::summing))]
 impl<A: PadSource, B: PadSource> PadSource for SplitSheet<A, B> {
     ghost pads = { λ s. summed (A.pads s.left) (B.pads s.right) };
 

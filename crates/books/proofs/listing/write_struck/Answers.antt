@@ -1,59 +1,56 @@
-use Rattle.std.proofs.Common.{◌≡◌, ◌+◌, ◌<◌, length, take, sym, ap, ◌∙◌, zero-add, arith, take_all}
-use Rattle.books.specs.Counting.{times}
-use Rattle.books.specs.Listing.{struck_count}
-use Rattle.books.proofs.Strucks.{strucks, count_then, count_else, strucks_then, strucks_else, room_then, front_written, back_kept, times-strucks}
+use Rattle.std.proofs.Common.{rules, tests, ℕ, ◌<◌, length, refl, sym, ◌∙◌, arith}
+use Rattle.std.proofs.lemmas.List.{length_push}
+use Rattle.std.proofs.lemmas.Iterator.{YieldsList-from_slice}
+use Rattle.std.proofs.lemmas.Iterator.Consumers.{YieldsList-from_filter, YieldsList-from_enumerate, YieldsList-at, YieldsList-turn, YieldsList-end}
+use Rattle.books.specs.Fates.{fate_is}
+use Rattle.books.specs.declared.fate.Fate.{Fate}
+use Rattle.books.specs.declared.fate.Fate.TheVariants.{Struck}
+use Rattle.pads.proofs.Fronts.{get_or-written_low, filled_more, filled_all}
+use Rattle.books.proofs.Strucks.{strucks, length-strucks, length-numbered, numbered_at, listed}
 use Rattle.books.proofs.listing.write_struck.Goals as goal
-use Rattle.books.proofs.listing.write_struck.Goals.{then-is_struck, else-is_struck}
 
-room : (c : goal.Then-is_struck) → c.loop-number.listed < length c.loop-number.places
-room c =
-    let p = room_then c.args.fates.now c.loop-number.number _ c.loop-number-test.true c.if-is_struck.ensures in
-    omega (arith, c.loop-number.invariant.0, c.requires.room, c.loop-number.auto.places)
+pub loop-place-init : goal.loop-place-init
+loop-place-init c =
+    record {
+      chain =
+          YieldsList-at c.into_iter-place-iterator.ensures.into_iter_gives
+          (YieldsList-from_enumerate
+          (YieldsList-at c.enumerate-place-items.ensures.source
+          (YieldsList-from_filter _ (λ (p : ℕ × Fate). fate_is Struck p.1)
+          (YieldsList-at c.filter-struck.ensures.source
+          (YieldsList-from_enumerate (YieldsList-at c.enumerate.ensures.source (YieldsList-from_slice c.args.fates.now c.iter.ensures.rest)) c.enumerate.ensures.count))
+          c.filter-struck.ensures.closure (λ x r q k. search (rules, tests))))
+          c.enumerate-place-items.ensures.count);
+      filled = record { front = λ k l. absurd (omega arith); back = λ k l. refl };
+    }
 
-pub offset_bounds-places-listed : goal.offset_bounds-places-listed
-offset_bounds-places-listed c = let r = room c in omega arith
-
-pub bounds-places-listed : goal.bounds-places-listed
-bounds-places-listed c = room c
-
-pub overflow_add-listed : goal.overflow_add-listed
-overflow_add-listed c = let r = room c in omega arith
-
-pub loop-number-preserved : goal.loop-number-preserved
-loop-number-preserved c =
+pub bounds-places-place : goal.bounds-places-place
+bounds-places-place c =
     let fs = c.args.fates.now in
-    let i = c.loop-number.number in
-    let xs = c.loop-number.places in
-    let n = c.loop-number.listed in
-    let l = c.loop-number-test.true in
-    let inv = c.loop-number.invariant in
-    elim c.if-is_struck.branch [
-      | then-is_struck w ↦
-          let e = w.if-is_struck.ensures in
-          let p = room_then fs i _ l e in
-          let q = count_then fs i _ l e in
-          let space : n < length xs = omega (arith, inv.0, c.requires.room, c.loop-number.auto.places) in
-          rw (w.listed-is, w.places-is) (
-            omega (arith, inv.0),
-            front_written xs c.args.places.now n i space _ inv.1 ∙ sym (strucks_then fs i _ l e),
-            back_kept xs c.args.places.now n i space inv.2,
-          )
-      | else-is_struck w ↦
-          let e = w.if-is_struck.ensures in
-          let q = count_else fs i _ l e in
-          rw (w.listed-is, w.places-is) (omega (arith, inv.0), inv.1 ∙ sym (strucks_else fs i _ l e), inv.2)
-    ]
+    let t = YieldsList-turn c.loop-place.invariant.chain c.loop-place.yielded _ c.loop-place.yielded_by _ _ _ c.in-Some.is c.next.ensures.steps in
+    let p = numbered_at fs (length c.loop-place.yielded) _ t.0 t.1 in
+    omega (arith, t.0, p.0, c.requires.room, length-numbered fs)
+
+pub loop-place-preserved : goal.loop-place-preserved
+loop-place-preserved c =
+    let fs = c.args.fates.now in
+    let xs = c.args.places.now in
+    let i = length c.loop-place.yielded in
+    let t = YieldsList-turn c.loop-place.invariant.chain c.loop-place.yielded _ c.loop-place.yielded_by _ _ _ c.in-Some.is c.next.ensures.steps in
+    let p = numbered_at fs i _ t.0 t.1 in
+    let inside : i < length (strucks 0 fs) = omega (arith, t.0, length-numbered fs, length-strucks 0 fs) in
+    let low : i < length xs = omega (arith, inside, length-strucks 0 fs, c.requires.room) in
+    record {
+      chain = c.loop-place.invariant.chain;
+      filled =
+          rw (p.0, length_push c.loop-place.yielded _)
+          (filled_more (strucks 0 fs) xs c.loop-place.places i c.loop-place.invariant.filled c.in-Some.number (omega arith) (p.1 ∙ sym (get_or-written_low (strucks 0 fs) xs i inside low)));
+    }
 
 pub returns : goal.returns
 returns c =
     let fs = c.args.fates.now in
-    let inv = c.loop-number.invariant in
-    let all : take c.loop-number.number fs ≡ fs = take_all c.loop-number.number fs c.loop-number-test.false in
-    record {
-      count = inv.0 ∙ ap struck_count all;
-      each = λ n.
-          let e : 0 + n ≡ n = zero-add n in
-          ap (times n) (inv.1 ∙ ap (strucks 0) all) ∙ (rw e at (times-strucks 0 n fs));
-      rest = inv.2;
-      long = c.loop-number.auto.places;
-    }
+    let t = YieldsList-end c.loop-place.invariant.chain c.loop-place.yielded _ c.loop-place.yielded_by _ _ c.in-None.is c.next.ensures.steps in
+    listed fs c.args.places.now c.loop-place.places c.requires.room
+    (filled_all (strucks 0 fs) c.args.places.now c.loop-place.places (length c.loop-place.yielded) c.loop-place.invariant.filled (omega arith)
+    (omega (arith, t.1, length-numbered fs, length-strucks 0 fs)))
