@@ -13,6 +13,7 @@ mod table;
 mod table_book;
 
 pub use office_book::OfficeBook;
+pub use opening::MOST_PADS;
 pub use pad::Pad;
 pub use refusals::{CheckError, FewPlaces, NoneOut, PadCountError, TakeError, WrongPad};
 pub use run::open_books;

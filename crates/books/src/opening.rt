@@ -4,7 +4,8 @@ ghost use Rattle.books.specs.Opening.{opening};
 
 use crate::refusals::PadCountError;
 
-pub(crate) const MOST_PADS: usize = 256;
+// The most pads of a book.
+pub const MOST_PADS: usize = 256;
 
 // Passes the numbers of pads that a book can have.
 pub(crate) fn check_count(count: usize) -> Result<(), PadCountError>

@@ -42,6 +42,7 @@ pub enum CheckError {
     WrongTag,
 }
 
+// Written out, since a derived From has no contract, and a check's clause rests on what this one gives.
 impl From<NoSuchPad> for CheckError {
     ghost from_gives = { λ e r. r ≡ Source e };
 

@@ -1,4 +1,5 @@
-// Why a transfer ends early: the refusal of a book, passed on whole.
+// Why a transfer ends early: the refusal of a book, passed on whole. Each From is written out, since a derived one has no
+// contract, and the transfer's clause rests on what it gives.
 ghost use Rattle.std.specs.Prelude.{◌≡◌};
 ghost use Rattle.exchange.specs.declared.refusal.Refusal.TheVariants.{Open, Take, Seal, Check};
 

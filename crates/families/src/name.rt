@@ -17,6 +17,7 @@ pub enum FamilyName {
 #[derive(Clone, Copy, PartialEq, Eq, Debug)]
 pub struct UnknownFamily;
 
+// Written out, since a derived Display has no contract, and says nothing of what it prints.
 impl fmt::Display for FamilyName {
     ghost output = { λ family. Some (shown family) };
 

@@ -13,6 +13,9 @@ const MOST_BYTES: usize = 4096;
 // The most bytes that a byte of the line may answer.
 const MOST_ANSWERED: usize = 13;
 
+// Room for the answers of the longest line.
+pub const ANSWERS_ROOM: usize = MOST_ANSWERED * MOST_BYTES;
+
 // What is left of a line: each command, with its place. A fault is the last.
 #[derive(Drop)]
 pub(crate) struct Commands<'a> {

@@ -1,4 +1,5 @@
-// Every fault as a refusal of its layer, so that it passes upward by `?`.
+// Every fault as a refusal of its layer, so that it passes upward by `?`. Each From is written out, since a derived one
+// has no contract, and the clauses of a line rest on what it gives.
 ghost use Rattle.std.specs.Prelude.{◌≡◌};
 ghost use Rattle.line.specs.Faults.{take_refusal, check_refusal};
 ghost use Rattle.line.specs.declared.refusal.Refusal.TheVariants.{Line, Session, Book, Pad, Family};

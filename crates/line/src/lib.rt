@@ -17,6 +17,7 @@ mod session;
 
 pub use answer::Answer;
 pub use command::Command;
+pub use commands::ANSWERS_ROOM;
 pub use laws::line_laws;
 pub use reader::read_command;
 pub use refusal::{BookFault, FamilyFault, LineFault, PadFault, Refusal, SessionFault};

@@ -12,13 +12,10 @@ use crate::output::Output;
 use crate::refusal::Refusal;
 use crate::serve::serve;
 use crate::session::Desk;
-use books::{PadCountError, open_books};
+use books::{MOST_PADS, PadCountError, open_books};
 use families::{FamilyName, Mmh, MmhStar, Nh, Nhs};
 use jobs::read_card;
 use pads::{Sheet, read_sheet};
-
-// The most pads of a sheet.
-const MOST_PADS: usize = 256;
 
 // Answers a whole line, and says how many bytes that takes.
 fn answer_line(desk: Desk<Sheet<'_>>, mut commands: Commands, answers: &mut [u8]) -> usize
@@ -59,6 +56,7 @@ pub fn run_line(
 {
     let commands = Commands::new(line, answers.len())?;
     let card = read_card(card)?;
+    // No heap: the pads are read into lent places, and counted.
     let mut places = [0u64; MOST_PADS];
     let count = read_sheet(sheet, &mut places)?;
     let pads = lend(&places, count)?;

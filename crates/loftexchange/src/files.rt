@@ -2,6 +2,7 @@
 ghost use Rattle.std.specs.Prelude.{◌≤◌, IfOk, vec_len};
 
 use anyhow::{anyhow, ensure};
+use books::MOST_PADS;
 use families::Nh;
 use jobs::{ClosedJob, OpenJob, read_card};
 use pads::read_sheet;
@@ -10,11 +11,10 @@ use std::fs;
 // The label of every job of this program.
 const LABEL: u32 = 7;
 
-// The bytes of a pad, and the most pads of a book.
+// The bytes of a pad.
 const PAD: usize = 8;
 
-const MOST_PADS: usize = 256;
-
+// Loftmark reads its card with a fault of its own; the two programs share no crate.
 pub fn read_card_file(rt: &HostRuntime) -> anyhow::Result<[u32; 164]> {
     let bytes = fs::read(rt, "card.bin")?;
     let card = read_card(bytes.as_slice()).map_err(|_| anyhow!("card.bin is not 656 bytes long"))?;

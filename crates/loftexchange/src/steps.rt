@@ -1,6 +1,6 @@
 // What the office and the table do, a line for each step.
 use anyhow::{anyhow, ensure};
-use books::{CheckError, OfficeBook, TableBook};
+use books::{CheckError, MOST_PADS, OfficeBook, TableBook};
 use families::Nh;
 use jobs::ClosedJob;
 use pads::Sheet;
@@ -19,6 +19,7 @@ pub fn seal(
     Ok((number, tag))
 }
 
+// The words are this program's; a Display would have to stand with the enum.
 fn reason(error: CheckError) -> &'static str {
     match error {
         CheckError::Source(_) => "the sheet has no such number",
@@ -69,7 +70,8 @@ pub fn lose(rt: &HostRuntime, office: &mut OfficeBook<Sheet>, sheet: Sheet) -> a
 }
 
 pub fn list(rt: &HostRuntime, office: &OfficeBook<Sheet>) -> anyhow::Result<()> {
-    let mut places = [0u32; 256];
+    // The book writes its list into lent places, and counts it.
+    let mut places = [0u32; MOST_PADS];
     let count = office
         .list_struck(&mut places)
         .map_err(|_| anyhow!("more than 256 struck numbers"))?;

@@ -7,18 +7,15 @@ mod input;
 
 use fault::Fault;
 use input::{read_file, read_part};
-use line::{Answer, run_line};
+use line::{ANSWERS_ROOM, Answer, run_line};
 use std::io::Write;
 use std::process::ExitCode;
-
-// Room for the answers of the longest line.
-const ROOM: usize = 53_248;
 
 fn run(rt: &HostRuntime) -> Result<(), Fault> {
     let card = read_file(rt, "card.bin").map_err(|_| Fault::NoCard)?;
     let sheet = read_file(rt, "sheet.bin").map_err(|_| Fault::NoSheet)?;
     let line = read_part(rt.stdin(), rt.alloc())?;
-    let mut answers = [0u8; ROOM];
+    let mut answers = [0u8; ANSWERS_ROOM];
     let result = run_line(
         card.as_slice(),
         sheet.as_slice(),

@@ -3,10 +3,6 @@ use crate::fault::Fault;
 use families::FamilyName;
 use std::env;
 
-fn label_of(text: &str) -> Result<u32, Fault> {
-    text.parse().map_err(|_| Fault::BadLabel)
-}
-
 // The family and the label that the command line names.
 pub fn read_order(rt: &HostRuntime) -> Result<(FamilyName, u32), Fault> {
     let mut words = env::args(rt)?;
@@ -15,5 +11,6 @@ pub fn read_order(rt: &HostRuntime) -> Result<(FamilyName, u32), Fault> {
         return Err(Fault::Usage);
     };
     let family = family.as_str().parse::<FamilyName>()?;
-    Ok((family, label_of(label.as_str())?))
+    let label = label.as_str().parse().map_err(|_| Fault::BadLabel)?;
+    Ok((family, label))
 }

@@ -4,12 +4,9 @@ use crate::tally::Tally;
 use anyhow::anyhow;
 use families::MmhStar;
 use jobs::read_card;
-use line::{BookFault, LineFault, Refusal, run_line};
+use line::{ANSWERS_ROOM, BookFault, LineFault, Refusal, run_line};
 use std::alloc::{AllocError, Global};
 use std::fs;
-
-// Room for the answers of the longest line.
-const ROOM: usize = 53_248;
 
 // The pads 100 and 200.
 const SHEET: [u8; 16] = [100, 0, 0, 0, 0, 0, 0, 0, 200, 0, 0, 0, 0, 0, 0, 0];
@@ -27,7 +24,7 @@ const ANSWERS: [u8; 30] = [
 
 // Whether a line over the two pads gives these answers.
 fn answers(card: &[u8], line: &[u8], expected: &[u8]) -> bool {
-    let mut buffer = [0u8; ROOM];
+    let mut buffer = [0u8; ANSWERS_ROOM];
     let result = run_line(card, &SHEET, line, &mut buffer);
     result.is_ok_and(|count| &buffer[0..count] == expected)
 }
@@ -41,7 +38,7 @@ fn result(
 ) -> Result<Result<usize, Refusal>, AllocError> {
     let sheet = vec![in heap; 0u8; pads.saturating_mul(8)]?;
     let line = vec![in heap; 0x5au8; long]?;
-    let mut buffer = [0u8; ROOM];
+    let mut buffer = [0u8; ANSWERS_ROOM];
     Ok(run_line(card, sheet.as_slice(), line.as_slice(), &mut buffer))
 }
 

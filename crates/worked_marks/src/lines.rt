@@ -1,12 +1,9 @@
 // Whole runs of the line, from lines.tsv.
 use crate::tally::Tally;
 use anyhow::anyhow;
-use line::{Answer, run_line};
+use line::{ANSWERS_ROOM, Answer, run_line};
 use std::alloc::{AllocError, Global};
 use std::fs;
-
-// Room for the answers of the longest line.
-const ROOM: usize = 53_248;
 
 // The bytes that a column spells: two digits for each, or a dash for none.
 fn column(heap: Global, text: &str) -> anyhow::Result<Vec<u8>> {
@@ -18,7 +15,7 @@ fn column(heap: Global, text: &str) -> anyhow::Result<Vec<u8>> {
 
 // What the program loftline writes for these contents of its files.
 fn output(heap: Global, card: &[u8], sheet: &[u8], line: &[u8]) -> Result<Vec<u8>, AllocError> {
-    let mut answers = [0u8; ROOM];
+    let mut answers = [0u8; ANSWERS_ROOM];
     match run_line(card, sheet, line, &mut answers) {
         Ok(count) => Vec::from_slice(heap, &answers[0..count]),
         Err(refusal) => {
