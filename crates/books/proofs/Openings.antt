@@ -21,13 +21,6 @@ granted n a b h = granted_by (fits n) a b h
 pub few : (n : ℕ) → fits n ≡ true → n ≤ 256
 few n e = leb-true n 256 (and_parts (leb 1 n) (leb n 256) e).1
 
--- an office book, over the first 256 of its pads
-pub office_opened : (ps : List ℕ) (n : ℕ) (u : Unit {0}) → n ≡ length ps → Ok u ≡ opening n tt → Ok (opened (take 256 ps)) ≡ opening (length ps) (opened ps)
-office_opened ps n u e h =
-    let fit : fits (length ps) ≡ true = ap fits (sym e) ∙ (granted n u tt h).0 in
-    let all : take 256 ps ≡ ps = take_all 256 ps (few (length ps) fit) in
-    ap (λ (xs : List ℕ). Ok (opened xs)) all ∙ sym (cond-true (fits (length ps)) (Ok (opened ps)) (Err (record {})) fit)
-
 -- both books
 pub both_opened : (ps qs : List ℕ) → fits (length ps) ≡ true → fits (length qs) ≡ true → starting ps qs ≡ Ok (started ps qs)
 both_opened ps qs e f = ap (λ t. cond t (Ok (started ps qs)) (Err (record {}))) (ap (λ t. t && fits (length qs)) e ∙ f)

@@ -36,22 +36,16 @@ impl<S: PadSource> OfficeBook<S> {
         ensures answer { result ≡ asked (office_view S.pads self.now).pads number }
         ensures within { OnOk result (number < 256) }
     {
-        if (number as usize) < MOST_PADS {
-            self.source.pad(number)
-        } else {
-            Err(NoSuchPad)
-        }
+        self.source.pad(number)
     }
 
     // Records what became of the pad that was out.
     fn use_up(&mut self, number: u32, fate: Fate)
+        requires { number < 256 }
         ensures { office_view S.pads self.new ≡ spent fate number (office_view S.pads self.old) }
     {
         self.out = None;
-        // After a write through get_mut a proof knows no element, so the place is tested and written by its number.
-        if (number as usize) < MOST_PADS {
-            self.fates[number as usize] = fate;
-        }
+        self.fates[number as usize] = fate;
     }
 
     // Hands out the next number's pad.

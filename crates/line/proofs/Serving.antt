@@ -2,6 +2,7 @@
 use Rattle.std.proofs.Common.{◌≡◌, ℕ, ◌+◌, ◌*◌, ◌≤◌, List, ◌++◌, length, drop, Ok, Option, sym, ap, ◌∙◌, arith}
 use Rattle.families.specs.Meanings.{Meaning}
 use Rattle.families.specs.declared.family.Family.{Ghosts}
+use Rattle.pads.specs.declared.source.PadSource.{Ghosts as Pads}
 use Rattle.jobs.specs.Roots.{Job}
 use Rattle.line.specs.Buffers.{put, answers_bytes, Left}
 use Rattle.line.specs.Commands.{Order, first, width}
@@ -13,7 +14,7 @@ use Rattle.line.proofs.Puts.{left_next}
 use Rattle.line.proofs.Turns.{from_next, room, owes}
 
 module _
-    {F S : Type 0} {G : Ghosts F} (pads : S → List ℕ) (m : Meaning) (before after : Session F S G) (reply : Reply) (job : Option Job) (line : List ℕ)
+    {F S : Type 0} {G : Ghosts F} {H : Pads S} (pads : S → List ℕ) (m : Meaning) (before after : Session F S G H) (reply : Reply) (job : Option Job) (line : List ℕ)
     (at : ℕ) (o : Order)
     (goes : Goes pads m before after reply (obeyed m before.card o (state_of pads before job)))
   where
