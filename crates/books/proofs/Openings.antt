@@ -1,8 +1,6 @@
 -- When a book is opened, and what the openings of both answer together.
-use Rattle.std.proofs.Common.{◌≡◌, ℕ, ◌≤◌, Bool, true, false, cond, ◌&&◌, leb, List, length, take, Ok, Err, Result, sym, refl, ap, ◌∙◌}
-use Rattle.std.proofs.lemmas.Bool.{and_parts, leb-true, cond-true}
-use Rattle.std.proofs.lemmas.List.{take_all}
-use Rattle.books.specs.Office.{opened}
+use Rattle.std.proofs.Common.{◌≡◌, ℕ, ◌≤◌, Bool, true, false, cond, ◌&&◌, leb, List, length, Ok, Err, Result, refl, ap, ◌∙◌}
+use Rattle.std.proofs.lemmas.Bool.{and_parts, leb-true}
 use Rattle.books.specs.Opening.{fits, opening}
 use Rattle.books.specs.Runs.{started, starting}
 use Rattle.books.specs.declared.refusals.PadCountError.{PadCountError}
