@@ -1,8 +1,6 @@
 -- When a book is opened, and what the openings of both answer together.
-use Rattle.std.proofs.Common.{◌≡◌, ℕ, ◌≤◌, Bool, true, false, cond, ◌&&◌, leb, List, length, take, Ok, Err, Result, sym, refl, ap, ◌∙◌}
-use Rattle.std.proofs.lemmas.Bool.{and_parts, leb-true, cond-true}
-use Rattle.std.proofs.lemmas.List.{take_all}
-use Rattle.books.specs.Office.{opened}
+use Rattle.std.proofs.Common.{◌≡◌, ℕ, ◌≤◌, Bool, true, false, cond, ◌&&◌, leb, List, length, Ok, Err, Result, refl, ap, ◌∙◌}
+use Rattle.std.proofs.lemmas.Bool.{and_parts, leb-true}
 use Rattle.books.specs.Opening.{fits, opening}
 use Rattle.books.specs.Runs.{started, starting}
 use Rattle.books.specs.declared.refusals.PadCountError.{PadCountError}
@@ -20,13 +18,6 @@ granted n a b h = granted_by (fits n) a b h
 
 pub few : (n : ℕ) → fits n ≡ true → n ≤ 256
 few n e = leb-true n 256 (and_parts (leb 1 n) (leb n 256) e).1
-
--- an office book, over the first 256 of its pads
-pub office_opened : (ps : List ℕ) (n : ℕ) (u : Unit {0}) → n ≡ length ps → Ok u ≡ opening n tt → Ok (opened (take 256 ps)) ≡ opening (length ps) (opened ps)
-office_opened ps n u e h =
-    let fit : fits (length ps) ≡ true = ap fits (sym e) ∙ (granted n u tt h).0 in
-    let all : take 256 ps ≡ ps = take_all 256 ps (few (length ps) fit) in
-    ap (λ (xs : List ℕ). Ok (opened xs)) all ∙ sym (cond-true (fits (length ps)) (Ok (opened ps)) (Err (record {})) fit)
 
 -- both books
 pub both_opened : (ps qs : List ℕ) → fits (length ps) ≡ true → fits (length qs) ≡ true → starting ps qs ≡ Ok (started ps qs)

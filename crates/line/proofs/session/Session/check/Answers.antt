@@ -1,4 +1,4 @@
-use Rattle.line.proofs.Closing.{error_is, checks_closed}
+use Rattle.line.proofs.Calls.{error_is, checks_closed}
 use Rattle.line.proofs.session.Session.check.Goals as goal
 
 pub returns-in_err-check : goal.returns-in_err-check

@@ -1,4 +1,4 @@
-use Rattle.line.proofs.Closing.{error_is, seals_refused, seals_closed}
+use Rattle.line.proofs.Calls.{error_is, seals_refused, seals_closed}
 use Rattle.line.proofs.session.Session.seal.Goals as goal
 
 pub returns-in_err-pad : goal.returns-in_err-pad

@@ -1,4 +1,4 @@
-use Rattle.line.proofs.Closing.{error_is, strikes_refused}
+use Rattle.line.proofs.Calls.{error_is, strikes_refused}
 use Rattle.line.proofs.session.Session.strike.Goals as goal
 
 pub returns-in_err-strike : goal.returns-in_err-strike

@@ -1,9 +1,12 @@
--- What a session does once its job was closed.
-use Rattle.std.proofs.Common.{◌≡◌, ℕ, List, Some, None, Ok, Err, Option, Result, ap, rules}
+-- What a session does with the books and its job, by what their calls answer.
+use Rattle.std.proofs.Common.{◌≡◌, ℕ, List, Some, None, Ok, Err, Option, Result, ap, rules, length, sym, refl, ◌∙◌}
 use Rattle.families.specs.Meanings.{Meaning}
 use Rattle.families.specs.declared.family.Family.{Ghosts}
+use Rattle.pads.specs.declared.source.PadSource.{Ghosts as Pads}
 use Rattle.jobs.specs.Roots.{Job}
+use Rattle.jobs.specs.Jobs.{Holds, feed_answer, fed}
 use Rattle.jobs.specs.declared.state.ClosedJob.{ClosedJob}
+use Rattle.jobs.specs.declared.state.OpenJob.{OpenJob}
 use Rattle.books.specs.Office.{taken, sealed, struck}
 use Rattle.books.specs.Table.{checked}
 use Rattle.books.specs.Views.{office_view, table_view}
@@ -14,7 +17,7 @@ use Rattle.books.specs.declared.refusals.TakeError.{TakeError}
 use Rattle.books.specs.declared.refusals.WrongPad.{WrongPad}
 use Rattle.books.specs.declared.table_book.TableBook.{TableBook}
 use Rattle.line.specs.Faults.{take_refusal, check_refusal}
-use Rattle.line.specs.Sessions.{seals, checks, strikes}
+use Rattle.line.specs.Sessions.{feeds, seals, checks, strikes}
 use Rattle.line.specs.Standing.{Stands, Ends, Does, idle}
 use Rattle.line.specs.declared.answer.Answer.TheVariants.{Sealed, Accepted}
 use Rattle.line.specs.declared.refusal.Refusal.TheVariants as refusal
@@ -27,9 +30,9 @@ pub error_is : {T E : Type 0} (r : Result T E) (e : E) → IsErrAnd r (λ x. x �
 error_is (Ok x) e h = absurd h
 error_is (Err x) e h = ap Err h
 
-module _ {F S : Type 0} {G : Ghosts F} (m : Meaning) (pads : S → List ℕ) where
+module _ {F S : Type 0} {G : Ghosts F} {H : Pads S} (m : Meaning) (pads : S → List ℕ) where
   pub checks_closed :
-      (before after : Session F S G) (closed : ClosedJob F) (number tag : ℕ) (table : TableBook S) (r : Result (Unit {0}) CheckError) →
+      (before after : Session F S G H) (closed : ClosedJob F) (number tag : ℕ) (table : TableBook S) (r : Result (Unit {0}) CheckError) →
       after ≡ idle before →
       ((job : Option Job) → Stands m before job → Ends m before.desk.card job (Ok closed)) →
       r ≡ (checked m.modulus closed.root number tag (table_view pads after.desk.table)).0 →
@@ -40,7 +43,7 @@ module _ {F S : Type 0} {G : Ghosts F} (m : Meaning) (pads : S → List ℕ) whe
   checks_closed before after closed number tag table r rest ends answer book (Some job) stands = search rules
 
   pub seals_refused :
-      (before after : Session F S G) (closed : ClosedJob F) (office : OfficeBook S) (e : TakeError) →
+      (before after : Session F S G H) (closed : ClosedJob F) (office : OfficeBook S H) (e : TakeError) →
       after ≡ idle before →
       ((job : Option Job) → Stands m before job → Ends m before.desk.card job (Ok closed)) →
       Err e ≡ (taken (office_view pads after.desk.office)).0 →
@@ -51,7 +54,7 @@ module _ {F S : Type 0} {G : Ghosts F} (m : Meaning) (pads : S → List ℕ) whe
   seals_refused before after closed office e rest ends answer book (Some job) stands = search rules
 
   pub seals_closed :
-      (before after : Session F S G) (closed : ClosedJob F) (took office : OfficeBook S) (pad : Pad) (r : Result (ℕ × ℕ) WrongPad) →
+      (before after : Session F S G H) (closed : ClosedJob F) (took office : OfficeBook S H) (pad : Pad) (r : Result (ℕ × ℕ) WrongPad) →
       after ≡ idle before →
       ((job : Option Job) → Stands m before job → Ends m before.desk.card job (Ok closed)) →
       Ok pad ≡ (taken (office_view pads after.desk.office)).0 →
@@ -65,7 +68,7 @@ module _ {F S : Type 0} {G : Ghosts F} (m : Meaning) (pads : S → List ℕ) whe
 
   -- a striking leaves the open job as it is
   pub strikes_refused :
-      (before : Session F S G) (took office : OfficeBook S) (pad : Pad) (e : WrongPad) →
+      (before : Session F S G H) (took office : OfficeBook S H) (pad : Pad) (e : WrongPad) →
       Ok pad ≡ (taken (office_view pads before.desk.office)).0 →
       office_view pads took ≡ (taken (office_view pads before.desk.office)).1 →
       Err e ≡ (struck pad (office_view pads took)).0 →
@@ -73,3 +76,17 @@ module _ {F S : Type 0} {G : Ghosts F} (m : Meaning) (pads : S → List ℕ) whe
       Does pads m before (record { desk = record { card = before.desk.card; office = office; table = before.desk.table }; job = before.job })
       (Err (refusal.Book book.WrongPad)) strikes
   strikes_refused before took office pad e took_answer took_book answer book job stands = search rules
+
+  -- the open job takes a piece
+  pub feeds_open :
+      (before : Session F S G H) (code after : OpenJob F G) (piece : List ℕ) →
+      before.job ≡ Some code →
+      Ok tt ≡ feed_answer code.length (length piece) →
+      ((card : List ℕ) (job : Job) → Holds m card job code → Holds m card (fed job piece) after) →
+      Does pads m before (record { desk = before.desk; job = Some after }) (Ok None) (feeds piece)
+  feeds_open before code after piece is answer holds None stands = absurd (rw is at stands)
+  feeds_open before code after piece is answer holds (Some job) stands =
+      let open_job : Holds m before.desk.card job code = rw is at stands in
+      let next = holds before.desk.card job open_job in
+      let same : feed_answer (length job.document) (length piece) ≡ Ok tt = ap (λ n. feed_answer n (length piece)) (sym open_job.long) ∙ sym answer in
+      rw same (record { same_card = refl; replied = refl; state = refl; stands = next })
