@@ -19,9 +19,8 @@ pub tag_of_stretch : (m : Meaning) (ks keys ws : List ℕ) → keys ≡ take 32 
 tag_of_stretch m ks keys ws e =
     ap (λ xs. m.tag (take (length ws) (take 32 xs)) ws) e ∙ ap (λ xs. m.tag (take (length ws) xs) ws) (take-take 32 32 ks (omega arith))
 
-pub empty_level : {F : Type 0} (m : Meaning) (ks : List ℕ) (l : Level F) → l.keys ≡ take 32 ks → l.tags.items ≡ [] → LevelHolds m ks l [] []
-empty_level m ks l keyed none = record {
-  keyed = keyed;
+pub empty_level : {F : Type 0} (m : Meaning) (ks : List ℕ) (l : Level F) → l.tags.items ≡ [] → LevelHolds m ks l [] []
+empty_level m ks l none = record {
   whole = [];
   split = subst (Split 16 [] []) (sym none) split_none;
   waits = λ p. absurd (omega arith);
@@ -29,29 +28,27 @@ empty_level m ks l keyed none = record {
 }
 
 -- a level took a tag in, behind what was left when a full block was taken out
-pub pushed : {F : Type 0} (m : Meaning) (ks : List ℕ) (l left l' : Level F) (t : ℕ) (up : Option ℕ) → left.keys ≡ l.keys → l'.keys ≡ left.keys → length left.tags.items < 16
-    → IfSome up (λ u. u ≡ tags_tag m l.keys l.tags.items) → OnSome up (length l.tags.items ≡ 16) → OnSome up (left.tags.items ≡ []) → IfNone up (left.tags.items ≡ l.tags.items)
-    → l'.tags.items ≡ left.tags.items ++ t ∷ [] → (ts ups : List ℕ) → LevelHolds m ks l ts ups → LevelHolds m ks l' (ts ++ t ∷ []) (ups ++ option_to_list up)
-pushed m ks l left l' t None keys keys' room tag full empty kept more ts ups h =
+pub pushed : {F : Type 0} (m : Meaning) (ks keys : List ℕ) (l left l' : Level F) (t : ℕ) (up : Option ℕ) → length left.tags.items < 16
+    → IfSome up (λ u. u ≡ tags_tag m keys l.tags.items) → OnSome up (length l.tags.items ≡ 16) → OnSome up (left.tags.items ≡ []) → IfNone up (left.tags.items ≡ l.tags.items)
+    → l'.tags.items ≡ left.tags.items ++ t ∷ [] → (ts ups : List ℕ) → keys ≡ take 32 ks → LevelHolds m ks l ts ups → LevelHolds m ks l' (ts ++ t ∷ []) (ups ++ option_to_list up)
+pushed m ks keys l left l' t None room tag full empty kept more ts ups stretch h =
     let is = more ∙ ap (λ xs. xs ++ t ∷ []) kept in
     let n = ap length is in
     let p = length_push l.tags.items t in
     let q = ap length kept in record {
-      keyed = keys' ∙ keys ∙ h.keyed;
       whole = h.whole;
       split = subst (Split 16 (ts ++ t ∷ []) h.whole) (sym is) (split-append (t ∷ []) h.split (omega arith));
       waits = λ _. omega arith;
       passed = append-nil ups ∙ h.passed;
     }
-pushed m ks l left l' t (Some up) keys keys' room tag full empty kept more ts ups h =
+pushed m ks keys l left l' t (Some up) room tag full empty kept more ts ups stretch h =
     let is = more ∙ ap (λ xs. xs ++ t ∷ []) empty in
     let n = ap length is in record {
-      keyed = keys' ∙ keys ∙ h.keyed;
       whole = h.whole ++ l.tags.items ∷ [];
       split = subst (Split 16 (ts ++ t ∷ []) (h.whole ++ l.tags.items ∷ [])) (sym is) (split-append (t ∷ []) (split_flush h.split full) (omega arith));
       waits = λ _. omega arith;
       passed =
           ap (λ us. us ++ up ∷ []) h.passed
-          ∙ ap (λ u. map (tags_tag m ks) h.whole ++ u ∷ []) (tag ∙ tag_of_stretch m ks l.keys (tags_words l.tags.items) h.keyed)
+          ∙ ap (λ u. map (tags_tag m ks) h.whole ++ u ∷ []) (tag ∙ tag_of_stretch m ks keys (tags_words l.tags.items) stretch)
           ∙ sym (map_push (tags_tag m ks) h.whole l.tags.items);
     }

@@ -1,8 +1,7 @@
 -- What a stream holds, from one part of a document to the next.
-use Rattle.std.proofs.Common.{◌≡◌, ℕ, ◌+◌, ◌/◌, ◌^◌, ◌<◌, ◌≤◌, List, [], ◌∷◌, ◌++◌, map, length, get_or, drop, sym, ap, ◌∙◌, subst, arith}
+use Rattle.std.proofs.Common.{◌≡◌, ℕ, ◌+◌, ◌^◌, ◌<◌, ◌≤◌, List, [], ◌∷◌, ◌++◌, map, length, get_or, take, drop, sym, ap, ◌∙◌, subst, arith}
 use mathlib.Core.List.{map-map}
 use Rattle.std.proofs.lemmas.List.{map_push, length-map}
-use Rattle.std.specs.Simd.{first_chunks}
 use Rattle.families.specs.Meanings.{Meaning}
 use native.Mathlib.Decide.{dec_lt}
 use Rattle.jobs.specs.Cutting.{blocks, Split}
@@ -15,16 +14,15 @@ use Rattle.jobs.proofs.Cuts.{split_none, split-append, split_flush, split_long, 
 use Rattle.jobs.proofs.Levels.{tag_of_stretch, empty_level}
 
 -- a full block was tagged, and none waits then
-module _ {F : Type 0} (m : Meaning) (s s' : Stream F) (block : List ℕ) (tag : ℕ) (same : s'.keys ≡ s.keys) (none : s'.block.items ≡ []) (long : length block ≡ 128) (e : tag ≡ bytes_tag m s.keys block)
-    (push : (ks ts : List ℕ) → LevelsHold m ks s.levels ts → LevelsHold m ks s'.levels (ts ++ tag ∷ [])) (card doc : List ℕ) (h : StreamHolds m card s doc) where
+module _ {F : Type 0} (m : Meaning) (s s' : Stream F) (block : List ℕ) (tag : ℕ) (card keys : List ℕ) (none : s'.block.items ≡ []) (long : length block ≡ 128) (first : keys ≡ take 32 card) (e : tag ≡ bytes_tag m keys block)
+    (push : (ts : List ℕ) → LevelsHold m (drop 32 card) s.levels ts → LevelsHold m (drop 32 card) s'.levels (ts ++ tag ∷ [])) (doc : List ℕ) (h : StreamHolds m card s doc) where
   tagged : (doc' : List ℕ) → Split 128 doc' h.whole block → StreamHolds m card s' doc'
   tagged doc' split =
       let ts = map (bytes_tag m card) h.whole in
-      let tag_is = e ∙ tag_of_stretch m card s.keys (byte_words block) h.keyed in record {
-        keyed = same ∙ h.keyed;
+      let tag_is = e ∙ tag_of_stretch m card keys (byte_words block) first in record {
         whole = h.whole ++ block ∷ [];
         split = subst (Split 128 doc' (h.whole ++ block ∷ [])) (sym none) (split_flush split long);
-        above = subst (LevelsHold m (drop 32 card) s'.levels) (ap (λ t. ts ++ t ∷ []) tag_is ∙ sym (map_push (bytes_tag m card) h.whole block)) (push (drop 32 card) ts h.above);
+        above = subst (LevelsHold m (drop 32 card) s'.levels) (ap (λ t. ts ++ t ∷ []) tag_is ∙ sym (map_push (bytes_tag m card) h.whole block)) (push ts h.above);
       }
 
   -- the block that waited
@@ -36,50 +34,43 @@ module _ {F : Type 0} (m : Meaning) (s s' : Stream F) (block : List ℕ) (tag : 
   passed is = tagged (doc ++ block) (split-append block (subst (Split 128 doc h.whole) is h.split) (omega arith))
 
 -- a part was copied behind what waited
-pub copied : {F : Type 0} (m : Meaning) (s s' : Stream F) (part : List ℕ) → s'.keys ≡ s.keys → s'.levels ≡ s.levels → s'.block.items ≡ s.block.items ++ part → length s.block.items + length part ≤ 128
+pub copied : {F : Type 0} (m : Meaning) (s s' : Stream F) (part : List ℕ) → s'.levels ≡ s.levels → s'.block.items ≡ s.block.items ++ part → length s.block.items + length part ≤ 128
     → (card doc : List ℕ) → StreamHolds m card s doc → StreamHolds m card s' (doc ++ part)
-copied m s s' part same levels block room card doc h = record {
-  keyed = same ∙ h.keyed;
+copied m s s' part levels block room card doc h = record {
   whole = h.whole;
   split = subst (Split 128 (doc ++ part) h.whole) (sym block) (split-append part h.split room);
   above = subst (λ ls. LevelsHold m (drop 32 card) ls (map (bytes_tag m card) h.whole)) (sym levels) h.above;
 }
 
 -- a stream that is closed gives the tag of all that it took
-module _ {F : Type 0} (m : Meaning) (s : Stream F) (tag r : ℕ) where
-  pub closed : tag ≡ bytes_tag m s.keys s.block.items → length s.levels ≡ 4
-      → ((ks ts : List ℕ) → LevelsHold m ks s.levels ts → length ts < 16 ^ length s.levels → r ≡ get_or (climb m (length s.levels) ks (ts ++ tag ∷ [])) 0 0)
-      → (card doc : List ℕ) → StreamHolds m card s doc → (0 < length doc → 0 < length s.block.items) → length doc ≤ 8388608 → r ≡ top_tag m card doc
+module _ {F : Type 0} (m : Meaning) (s : Stream F) (tag r : ℕ) (card keys : List ℕ) where
+  pub closed : keys ≡ take 32 card → tag ≡ bytes_tag m keys s.block.items → length s.levels ≡ 4
+      → ((ts : List ℕ) → LevelsHold m (drop 32 card) s.levels ts → length ts < 16 ^ length s.levels → r ≡ get_or (climb m (length s.levels) (drop 32 card) (ts ++ tag ∷ [])) 0 0)
+      → (doc : List ℕ) → StreamHolds m card s doc → (0 < length doc → 0 < length s.block.items) → length doc ≤ 8388608 → r ≡ top_tag m card doc
   unfolding top_tag level_tags first_words
-  closed e four top card doc h waits small =
+  closed first e four top doc h waits small =
       let ts = map (bytes_tag m card) h.whole in
       let all = split_long h.split in
       let many : length ts ≡ length h.whole = length-map h.whole (bytes_tag m card) in
       let room : 16 ^ length s.levels ≡ 65536 = ap (λ i. 16 ^ i) four in
       let few : length h.whole ≤ 65535 = elim (dec_lt 0 (length doc)) [ yes p ↦ let q = waits p in omega arith | no p ↦ omega arith ] in
-      let tag_is = e ∙ tag_of_stretch m card s.keys (byte_words s.block.items) h.keyed in
-      top (drop 32 card) ts h.above (omega arith)
+      let tag_is = e ∙ tag_of_stretch m card keys (byte_words s.block.items) first in
+      top ts h.above (omega arith)
       ∙ ap (λ i. get_or (climb m i (drop 32 card) (ts ++ tag ∷ [])) 0 0) four
-      ∙ ap (λ us. get_or (climb m 4 (drop 32 card) us) 0 0) (ap (λ t. ts ++ t ∷ []) tag_is ∙ sym (tags card doc h waits))
+      ∙ ap (λ us. get_or (climb m 4 (drop 32 card) us) 0 0) (ap (λ t. ts ++ t ∷ []) tag_is ∙ sym (tags doc h waits))
     where
-      tags : (card doc : List ℕ) (h : StreamHolds m card s doc) → (0 < length doc → 0 < length s.block.items) → map (block_tag m card) (first_words doc) ≡ map (bytes_tag m card) h.whole ++ bytes_tag m card s.block.items ∷ []
-      tags card doc h waits =
+      tags : (doc : List ℕ) (h : StreamHolds m card s doc) → (0 < length doc → 0 < length s.block.items) → map (block_tag m card) (first_words doc) ≡ map (bytes_tag m card) h.whole ++ bytes_tag m card s.block.items ∷ []
+      tags doc h waits =
           map-map (block_tag m card) byte_words (blocks 128 doc)
           ∙ ap (map (bytes_tag m card)) (blocks_are (omega arith) h.split waits)
           ∙ map_push (bytes_tag m card) h.whole s.block.items
 
--- a stream that took nothing, on the stretches of a card
-pub empty_stream : {F : Type 0} (m : Meaning) (card : List ℕ) (s : Stream F) (a b c d : Level F) (stretches : List (List ℕ)) → length card ≡ 164 → stretches ≡ first_chunks 32 (length card / 32) card
-    → s.keys ≡ get_or stretches 0 [] → s.block.items ≡ [] → s.levels ≡ a ∷ b ∷ c ∷ d ∷ []
-    → a.keys ≡ get_or stretches 1 [] → b.keys ≡ get_or stretches 2 [] → c.keys ≡ get_or stretches 3 [] → d.keys ≡ get_or stretches 4 []
+-- a stream that took nothing
+pub empty_stream : {F : Type 0} (m : Meaning) (card : List ℕ) (s : Stream F) (a b c d : Level F) → s.block.items ≡ [] → s.levels ≡ a ∷ b ∷ c ∷ d ∷ []
     → a.tags.items ≡ [] → b.tags.items ≡ [] → c.tags.items ≡ [] → d.tags.items ≡ [] → StreamHolds m card s []
-empty_stream m card s a b c d stretches long front keys none levels ka kb kc kd ea eb ec ed = record {
-  keyed = keys ∙ at 0;
+empty_stream m card s a b c d none levels ea eb ec ed = record {
   whole = [];
   split = subst (Split 128 [] []) (sym none) split_none;
   above = subst (λ ls. LevelsHold m (drop 32 card) ls []) (sym levels)
-      ([], empty_level m _ a (ka ∙ at 1) ea, ([], empty_level m _ b (kb ∙ at 2) eb, ([], empty_level m _ c (kc ∙ at 3) ec, ([], empty_level m _ d (kd ∙ at 4) ed, tt))));
+      ([], empty_level m _ a ea, ([], empty_level m _ b eb, ([], empty_level m _ c ec, ([], empty_level m _ d ed, tt))));
 }
-  where
-    at : (i : ℕ) → get_or stretches i [] ≡ get_or (first_chunks 32 5 card) i []
-    at i = ap (λ cs. get_or cs i []) (front ∙ ap (λ n. first_chunks 32 (n / 32) card) long)

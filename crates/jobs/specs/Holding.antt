@@ -1,5 +1,5 @@
 -- What the state of an open job stands for.
-use Rattle.std.specs.Prelude.{◌≡◌, ℕ, ◌<◌, List, [], ◌∷◌, map, length, take, drop}
+use Rattle.std.specs.Prelude.{◌≡◌, ℕ, ◌<◌, List, [], ◌∷◌, map, length, drop}
 use Rattle.families.specs.Meanings.{Meaning}
 use Rattle.jobs.specs.Cutting.{Split}
 use Rattle.jobs.specs.Reading.{byte_words, tags_words}
@@ -14,10 +14,9 @@ bytes_tag m ks bs = block_tag m ks (byte_words bs)
 abbrev pub tags_tag : Meaning → List ℕ → List ℕ → ℕ
 tags_tag m ks ts = block_tag m ks (tags_words ts)
 
--- A level, on the first stretch of the card's words ks, that took the tags ts and handed on the tags ups. A full block
--- waits for the next tag, so something waits as soon as a tag came.
+-- A level, whose stretch begins the words ks, that took the tags ts and handed on the tags ups. A full block waits for the
+-- next tag, so something waits as soon as a tag came.
 pub record LevelHolds {F : Type 0} (m : Meaning) (ks : List ℕ) (l : Level F) (ts ups : List ℕ) : Type 0 where
-  pub keyed : l.keys ≡ take 32 ks
   pub whole : List (List ℕ)
   pub split : Split 16 ts whole l.tags.items
   pub waits : 0 < length ts → 0 < length l.tags.items
@@ -30,7 +29,6 @@ LevelsHold m ks (l ∷ ls) ts = (ups : List ℕ) × LevelHolds m ks l ts ups × 
 
 -- a stream that took the bytes doc
 pub record StreamHolds {F : Type 0} (m : Meaning) (card : List ℕ) (s : Stream F) (doc : List ℕ) : Type 0 where
-  pub keyed : s.keys ≡ take 32 card
   pub whole : List (List ℕ)
   pub split : Split 128 doc whole s.block.items
   pub above : LevelsHold m (drop 32 card) s.levels (map (bytes_tag m card) whole)

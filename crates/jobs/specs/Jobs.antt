@@ -1,5 +1,5 @@
 -- What an open and a closed job stand for, and what the calls on them answer.
-use Rattle.std.specs.Prelude.{◌≡◌, ℕ, ◌+◌, ◌<◌, cond, ◌≢◌, List, [], ◌++◌, length, drop, Ok, Err, Result, MatchResult, ◌==◌, nat_le}
+use Rattle.std.specs.Prelude.{◌≡◌, ℕ, ◌+◌, ◌<◌, cond, ◌≢◌, List, [], ◌++◌, length, Ok, Err, Result, MatchResult, ◌==◌, nat_le}
 use Rattle.families.specs.Meanings.{Meaning}
 use Rattle.families.specs.declared.family.Family.{Ghosts}
 use Rattle.jobs.specs.Reading.{byte_words}
@@ -18,7 +18,7 @@ card_read bytes = cond (length bytes == 656) (Ok (byte_words bytes)) (Err (recor
 pub record Holds {F : Type 0} {G : Ghosts F} (m : Meaning) (card : List ℕ) (job : Job) (o : OpenJob F G) : Type 0 where
   pub keyed : Card card
   pub proper : Proper job
-  pub on : o.root_keys ≡ drop 160 card
+  pub on : o.card ≡ card
   pub under : o.label ≡ job.label
   pub long : o.length ≡ length job.document
   pub waits : 0 < length job.document → 0 < length o.stream.block.items

@@ -1,5 +1,5 @@
 // Bytes as words, and the tag of a block.
-ghost use Rattle.std.specs.Prelude.{◌≡◌, ◌-◌, ◌*◌, ◌%◌, ◌≤◌, ◌++◌, length, replicate};
+ghost use Rattle.std.specs.Prelude.{◌≡◌, ◌-◌, ◌*◌, ◌%◌, ◌≤◌, ◌++◌, length, replicate, take};
 ghost use Rattle.jobs.specs.Reading.{words_of};
 ghost use Rattle.jobs.specs.Roots.{block_tag};
 ghost use Rattle.jobs.specs.Holding.{bytes_tag};
@@ -17,6 +17,14 @@ pub(crate) fn read_words<const N: usize>(bytes: &[u8]) -> [u32; N]
         *word = u32::from_le_bytes(fours[i]);
     }
     words
+}
+
+// The words of the stretch that begins some words of a card.
+pub(crate) fn stretch(keys: &[u32]) -> &[u32; 32]
+    requires { 32 ≤ length keys.now }
+    ensures { result.now ≡ take 32 keys.now }
+{
+    keys.first_chunk().unwrap()
 }
 
 // The tag of a block of words, under the first words of a stretch of the card.

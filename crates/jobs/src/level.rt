@@ -1,42 +1,42 @@
 // One level above the first, and the levels above one another.
-ghost use Rattle.std.specs.Prelude.{◌≡◌, ℕ, ◌^◌, ◌<◌, List, [], ◌∷◌, ◌++◌, length, take, slice_index, IfSome, OnSome, IfNone};
+ghost use Rattle.std.specs.Prelude.{◌≡◌, ℕ, ◌*◌, ◌^◌, ◌<◌, ◌≤◌, List, [], ◌∷◌, ◌++◌, length, take, slice_index, IfSome, OnSome, IfNone};
 ghost use Rattle.std.specs.Option.{option_to_list};
 ghost use Rattle.arrayvec.specs.ArrayVec.{array_vec_len};
 ghost use Rattle.jobs.specs.Roots.{climb};
 ghost use Rattle.jobs.specs.Holding.{tags_tag, LevelHolds, LevelsHold};
 
-use crate::block::words_tag;
+use crate::block::{stretch, words_tag};
 use crate::state::Level;
 use crate::tag::split_tags;
 use arrayvec::ArrayVec;
 use families::Family;
 use std::marker::PhantomData;
 
+// The words of a level's stretch of the card.
+const STRETCH: usize = 32;
+
 impl<F: Family> Level<F> {
-    // A level that has taken nothing, on its stretch of the card.
-    pub(crate) fn new(keys: [u32; 32]) -> Level<F>
-        ensures keys { result.keys ≡ keys }
-        ensures tags { result.tags.items ≡ [] }
+    // A level that has taken nothing.
+    pub(crate) fn new() -> Level<F>
+        ensures { result.tags.items ≡ [] }
     {
         Level {
-            keys,
             tags: ArrayVec::new(),
             family: PhantomData,
         }
     }
 
-    // The tag of the block that waits here.
-    fn tag(&self) -> u64
-        ensures { result ≡ tags_tag F.meaning self.now.keys self.now.tags.items }
+    // The tag of the block that waits here, under the level's stretch of the card.
+    fn tag(&self, keys: &[u32; 32]) -> u64
+        ensures { result ≡ tags_tag F.meaning keys.now self.now.tags.items }
     {
-        words_tag::<F>(&self.keys, split_tags(self.tags.as_slice()).as_slice())
+        words_tag::<F>(keys, split_tags(self.tags.as_slice()).as_slice())
     }
 
     // The tag of the block that waits here, where it is full; then none waits.
-    fn take_full(&mut self) -> Option<u64>
-        ensures keys { self.new.keys ≡ self.old.keys }
+    fn take_full(&mut self, keys: &[u32; 32]) -> Option<u64>
         ensures room { array_vec_len self.new.tags < 16 }
-        ensures tag { IfSome result (λ up. up ≡ tags_tag F.meaning self.old.keys self.old.tags.items) }
+        ensures tag { IfSome result (λ up. up ≡ tags_tag F.meaning keys.now self.old.tags.items) }
         ensures full { OnSome result (array_vec_len self.old.tags ≡ 16) }
         ensures empty { OnSome result (self.new.tags.items ≡ []) }
         ensures kept { IfNone result (self.new.tags.items ≡ self.old.tags.items) }
@@ -44,40 +44,44 @@ impl<F: Family> Level<F> {
         if !self.tags.is_full() {
             return None;
         }
-        let up = self.tag();
+        let up = self.tag(keys);
         self.tags.clear();
         Some(up)
     }
 
     // Takes a tag in; where the block was full, hands on its tag and begins another.
-    fn push(&mut self, tag: u64) -> Option<u64>
-        ensures { (ks ts ups : List ℕ) → LevelHolds F.meaning ks self.old ts ups → LevelHolds F.meaning ks self.new (ts ++ tag ∷ []) (ups ++ option_to_list result) }
+    fn push(&mut self, keys: &[u32; 32], tag: u64) -> Option<u64>
+        ensures { (ks ts ups : List ℕ) → keys.now ≡ take 32 ks → LevelHolds F.meaning ks self.old ts ups → LevelHolds F.meaning ks self.new (ts ++ tag ∷ []) (ups ++ option_to_list result) }
     {
-        let up = self.take_full();
+        let up = self.take_full(keys);
         self.tags.push(tag);
         up
     }
 }
 
-// Takes a tag into the lowest of some levels, and what it hands on into those above.
-pub(crate) fn push_all<F: Family>(levels: &mut [Level<F>], tag: u64)
-    ensures { (ks ts : List ℕ) → LevelsHold F.meaning ks levels.old ts → LevelsHold F.meaning ks levels.new (ts ++ tag ∷ []) }
+// Takes a tag into the lowest of some levels, and what it hands on into those above. The words of the lowest level's
+// stretch begin the keys.
+pub(crate) fn push_all<F: Family>(levels: &mut [Level<F>], keys: &[u32], tag: u64)
+    requires { 32 * length levels.old ≤ length keys.now }
+    ensures { (ts : List ℕ) → LevelsHold F.meaning keys.now levels.old ts → LevelsHold F.meaning keys.now levels.new (ts ++ tag ∷ []) }
 {
     let Some((lowest, above)) = levels.split_first_mut() else {
         return;
     };
-    if let Some(up) = lowest.push(tag) {
-        push_all(above, up);
+    if let Some(up) = lowest.push(stretch(keys), tag) {
+        push_all(above, &keys[STRETCH..], up);
     }
 }
 
 // The one tag that the highest of some levels gives, once the last tag is in.
-pub(crate) fn top<F: Family>(levels: &mut [Level<F>], last: u64) -> u64
-    ensures { (ks ts : List ℕ) → LevelsHold F.meaning ks levels.old ts → length ts < 16 ^ length levels.old → result ≡ slice_index (climb F.meaning (length levels.old) ks (ts ++ last ∷ [])) 0 }
+pub(crate) fn top<F: Family>(levels: &mut [Level<F>], keys: &[u32], last: u64) -> u64
+    requires { 32 * length levels.old ≤ length keys.now }
+    ensures { (ts : List ℕ) → LevelsHold F.meaning keys.now levels.old ts → length ts < 16 ^ length levels.old → result ≡ slice_index (climb F.meaning (length levels.old) keys.now (ts ++ last ∷ [])) 0 }
 {
-    push_all(levels, last);
+    push_all(levels, keys, last);
     let Some((lowest, above)) = levels.split_first_mut() else {
         return last;
     };
-    top(above, lowest.tag())
+    let tag = lowest.tag(stretch(keys));
+    top(above, &keys[STRETCH..], tag)
 }

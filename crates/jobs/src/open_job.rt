@@ -12,6 +12,9 @@ use std::marker::PhantomData;
 // The most bytes of a document.
 const LIMIT: usize = 8_388_608;
 
+// Where the words of the root begin on the card.
+const ROOT: usize = 160;
+
 // A piece that would take the document past 8,388,608 bytes.
 #[derive(Clone, Copy, PartialEq, Eq, Debug)]
 pub struct TooLong;
@@ -22,8 +25,8 @@ impl<F: Family> OpenJob<F> {
         ensures { Holds F.meaning card.now (fresh label) result }
     {
         OpenJob {
-            stream: Stream::new(card),
-            root_keys: *card.last_chunk().unwrap(),
+            card: *card,
+            stream: Stream::new(),
             label,
             length: 0,
         }
@@ -42,7 +45,7 @@ impl<F: Family> OpenJob<F> {
         requires { self.old.length + length piece.now ≤ 8388608 }
         ensures { (card : List ℕ) (job : Job) → Holds F.meaning card job self.old → Holds F.meaning card (fed job piece.now) self.new }
     {
-        self.stream.feed(piece);
+        self.stream.feed(&self.card, piece);
         self.length += piece.len();
     }
 
@@ -62,8 +65,9 @@ impl<F: Family> OpenJob<F> {
     fn root(self) -> u64
         ensures { (card : List ℕ) (job : Job) → Holds F.meaning card job self → result ≡ root_tag F.meaning card job }
     {
-        let words = root_words(self.stream.close(), self.length as u32, self.label);
-        F::tag(&self.root_keys, &words).unwrap()
+        let top = self.stream.close(&self.card);
+        let words = root_words(top, self.length as u32, self.label);
+        F::tag(&self.card[ROOT..], &words).unwrap()
     }
 
     // Ends the document.

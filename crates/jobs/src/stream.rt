@@ -4,7 +4,7 @@ ghost use Rattle.arrayvec.specs.ArrayVec.{array_vec_len};
 ghost use Rattle.jobs.specs.Roots.{top_tag};
 ghost use Rattle.jobs.specs.Holding.{StreamHolds};
 
-use crate::block::{last_tag, whole_tag};
+use crate::block::{last_tag, stretch, whole_tag};
 use crate::level::{push_all, top};
 use crate::state::{Level, Stream};
 use arrayvec::ArrayVec;
@@ -13,44 +13,40 @@ use families::Family;
 // The bytes of a block of level 1.
 const BLOCK: usize = 128;
 
+// Where the words of level 2 begin on the card.
+const SECOND: usize = 32;
+
 impl<F: Family> Stream<F> {
-    // A stream that has taken nothing, on the five stretches of a card.
-    pub(crate) fn new(card: &[u32; 164]) -> Stream<F>
+    // A stream that has taken nothing.
+    pub(crate) fn new() -> Stream<F>
         ensures block { result.block.items ≡ [] }
-        ensures holds { StreamHolds F.meaning card.now result [] }
+        ensures holds { (card : List ℕ) → StreamHolds F.meaning card result [] }
     {
-        let (stretches, _root) = card.as_chunks::<32>();
         Stream {
-            keys: stretches[0],
             block: ArrayVec::new(),
-            levels: [
-                Level::new(stretches[1]),
-                Level::new(stretches[2]),
-                Level::new(stretches[3]),
-                Level::new(stretches[4]),
-            ],
+            levels: [Level::new(), Level::new(), Level::new(), Level::new()],
         }
     }
 
     // Tags the full block that waits.
-    fn flush(&mut self)
+    fn flush(&mut self, card: &[u32; 164])
         requires { array_vec_len self.old.block ≡ 128 }
         ensures block { self.new.block.items ≡ [] }
-        ensures holds { (card doc : List ℕ) → StreamHolds F.meaning card self.old doc → StreamHolds F.meaning card self.new doc }
+        ensures holds { (doc : List ℕ) → StreamHolds F.meaning card.now self.old doc → StreamHolds F.meaning card.now self.new doc }
     {
-        let tag = last_tag::<F>(&self.keys, self.block.as_slice());
-        push_all(&mut self.levels, tag);
+        let tag = last_tag::<F>(stretch(card), self.block.as_slice());
+        push_all(&mut self.levels, &card[SECOND..], tag);
         self.block.clear();
     }
 
     // Tags a whole block where it lies, while none waits.
-    fn pass(&mut self, block: &[u8; 128])
+    fn pass(&mut self, card: &[u32; 164], block: &[u8; 128])
         requires { self.old.block.items ≡ [] }
         ensures block { self.new.block.items ≡ [] }
-        ensures holds { (card doc : List ℕ) → StreamHolds F.meaning card self.old doc → StreamHolds F.meaning card self.new (doc ++ block.now) }
+        ensures holds { (doc : List ℕ) → StreamHolds F.meaning card.now self.old doc → StreamHolds F.meaning card.now self.new (doc ++ block.now) }
     {
-        let tag = whole_tag::<F>(&self.keys, block);
-        push_all(&mut self.levels, tag);
+        let tag = whole_tag::<F>(stretch(card), block);
+        push_all(&mut self.levels, &card[SECOND..], tag);
     }
 
     // Copies bytes for which there is room behind those that wait.
@@ -63,38 +59,38 @@ impl<F: Family> Stream<F> {
     }
 
     // Tags all whole blocks that a byte follows, while none waits, and keeps the bytes behind them.
-    fn take_blocks(&mut self, bytes: &[u8])
+    fn take_blocks(&mut self, card: &[u32; 164], bytes: &[u8])
         requires none { self.old.block.items ≡ [] }
         requires some { 0 < length bytes.now }
         ensures waits { 0 < array_vec_len self.new.block }
-        ensures holds { (card doc : List ℕ) → StreamHolds F.meaning card self.old doc → StreamHolds F.meaning card self.new (doc ++ bytes.now) }
+        ensures holds { (doc : List ℕ) → StreamHolds F.meaning card.now self.old doc → StreamHolds F.meaning card.now self.new (doc ++ bytes.now) }
     {
         let (whole, rest) = bytes.split_at((bytes.len() - 1) / BLOCK * BLOCK);
         for block in whole.as_chunks::<BLOCK>().0 {
-            self.pass(block);
+            self.pass(card, block);
         }
         self.keep(rest);
     }
 
     // Takes a piece of the document. A block is tagged only once a byte follows it.
-    pub(crate) fn feed(&mut self, piece: &[u8])
+    pub(crate) fn feed(&mut self, card: &[u32; 164], piece: &[u8])
         ensures waits { 0 < array_vec_len self.old.block + length piece.now → 0 < array_vec_len self.new.block }
-        ensures holds { (card doc : List ℕ) → StreamHolds F.meaning card self.old doc → StreamHolds F.meaning card self.new (doc ++ piece.now) }
+        ensures holds { (doc : List ℕ) → StreamHolds F.meaning card.now self.old doc → StreamHolds F.meaning card.now self.new (doc ++ piece.now) }
     {
         let room = self.block.remaining_capacity();
         let (front, rest) = piece.split_at(room.min(piece.len()));
         self.keep(front);
         if !rest.is_empty() {
-            self.flush();
-            self.take_blocks(rest);
+            self.flush(card);
+            self.take_blocks(card, rest);
         }
     }
 
     // The tag at the top of the levels, once the document is all in.
-    pub(crate) fn close(mut self) -> u64
-        ensures { (card doc : List ℕ) → StreamHolds F.meaning card self doc → (0 < length doc → 0 < array_vec_len self.block) → length doc ≤ 8388608 → result ≡ top_tag F.meaning card doc }
+    pub(crate) fn close(mut self, card: &[u32; 164]) -> u64
+        ensures { (doc : List ℕ) → StreamHolds F.meaning card.now self doc → (0 < length doc → 0 < array_vec_len self.block) → length doc ≤ 8388608 → result ≡ top_tag F.meaning card.now doc }
     {
-        let tag = last_tag::<F>(&self.keys, self.block.as_slice());
-        top(&mut self.levels, tag)
+        let tag = last_tag::<F>(stretch(card), self.block.as_slice());
+        top(&mut self.levels, &card[SECOND..], tag)
     }
 }

@@ -12,19 +12,19 @@ loop-block-preserved g c =
     let next = chunk_next bs c.split_at.result.0.now c.as_chunks.result.0.now _ i c.split_at.ensures.front c.as_chunks.ensures.front (omega arith) in
     record {
       none = c.pass.ensures.block;
-      holds = λ card doc h. subst (StreamHolds g.F.Family.meaning card c.pass.new.self)
+      holds = λ doc h. subst (StreamHolds g.F.Family.meaning c.args.card.now c.pass.new.self)
           (append_assoc doc (take (128 * i) bs) _ ∙ ap (λ xs. doc ++ xs) next)
-          (c.pass.ensures.holds card _ (c.loop-block.invariant.holds card doc h));
+          (c.pass.ensures.holds _ (c.loop-block.invariant.holds doc h));
     }
 
 pub returns-clause-holds : goal.returns-clause-holds
-returns-clause-holds g c = λ card doc h.
+returns-clause-holds g c = λ doc h.
     let bs = c.args.bytes.now in
     let rest = c.split_at.result.1.now in
     let i = c.loop-block.block-index in
     let w = (length bs - 1) / 128 * 128 in
     let at : 128 * i ≡ w = omega (arith, c.as_chunks.ensures.front_len, c.split_at.ensures.front_len) in
     let all : take (128 * i) bs ++ rest ≡ bs = ap (λ n. take n bs ++ rest) at ∙ ap (λ xs. take w bs ++ xs) c.split_at.ensures.back ∙ take-append-drop w bs in
-    subst (StreamHolds g.F.Family.meaning card c.keep.new.self)
+    subst (StreamHolds g.F.Family.meaning c.args.card.now c.keep.new.self)
     (append_assoc doc (take (128 * i) bs) rest ∙ ap (λ xs. doc ++ xs) all)
-    (c.keep.ensures.holds card _ (c.loop-block.invariant.holds card doc h))
+    (c.keep.ensures.holds c.args.card.now _ (c.loop-block.invariant.holds doc h))
