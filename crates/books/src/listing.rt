@@ -24,6 +24,7 @@ fn write_struck(fates: &[Fate], places: &mut [u32])
         .iter()
         .enumerate()
         .filter(|(_, fate)| **fate == Fate::Struck);
+    // A zip of places says nothing of what was written.
     for (place, (number, _)) in struck.enumerate() {
         places[place] = number as u32;
     }

@@ -24,6 +24,7 @@ fn answer_line(desk: Desk<Sheet<'_>>, mut commands: Commands, answers: &mut [u8]
     ensures buffer { answers.new ≡ put 0 (whole_answers (λ s. s.pads.now) desk.entry commands.entry) answers.old }
 {
     let mut output = Output { answers, used: 0 };
+    // A family is a type, and no closure is generic: the four are named here.
     match until_choice(&mut commands, &mut output) {
         None => {}
         Some(FamilyName::Nh) => serve::<Nh>(desk, commands, &mut output),

@@ -33,6 +33,7 @@ fn run(rt: &HostRuntime) -> Result<(), Fault> {
     Ok(())
 }
 
+// As loftmark's: two programs share no crate.
 fn main(rt: HostRuntime) -> ExitCode {
     if let Err(fault) = run(&rt) {
         let _ = eprintln!(rt; "loftline: {fault}");

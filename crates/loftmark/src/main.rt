@@ -22,6 +22,7 @@ fn mark<F: Family>(rt: &HostRuntime, name: FamilyName, label: u32) -> Result<(),
 
 fn run(rt: &HostRuntime) -> Result<(), Fault> {
     let (name, label) = read_order(rt)?;
+    // A family is a type, and no closure is generic: the four are named here.
     match name {
         FamilyName::Nh => mark::<Nh>(rt, name, label),
         FamilyName::Nhs => mark::<Nhs>(rt, name, label),
@@ -30,6 +31,7 @@ fn run(rt: &HostRuntime) -> Result<(), Fault> {
     }
 }
 
+// As loftline's: two programs share no crate.
 fn main(rt: HostRuntime) -> ExitCode {
     if let Err(fault) = run(&rt) {
         let _ = eprintln!(rt; "loftmark: {fault}");

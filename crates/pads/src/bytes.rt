@@ -13,6 +13,8 @@ pub struct SheetError;
 fn write_pads(bytes: &[u8], places: &mut [u64])
     ensures { places.new ≡ written (pads_of bytes.now) places.old }
 {
+    // As jobs reads words, but in eights: numbers of two widths have no trait in common. A zip of places says nothing of
+    // what was written.
     let (pads, _) = bytes.as_chunks::<WIDTH>();
     for (number, place) in places.iter_mut().enumerate() {
         if let Some(pad) = pads.get(number) {

@@ -6,7 +6,7 @@ ghost use Rattle.jobs.specs.Jobs.{fed, fresh};
 use families::Family;
 use jobs::OpenJob;
 
-// How a document is fed.
+// How a document is fed: a case, and no closure, since which vectors suit it depends on it too.
 #[derive(Clone, Copy)]
 pub enum Feeding<'a> {
     // In pieces of these lengths, over and over.
