@@ -60,7 +60,7 @@ impl<F: Family> Level<F> {
 }
 
 // Takes a tag into the lowest of some levels, and what it hands on into those above. The words of the lowest level's
-// stretch begin the keys.
+// stretch begin the keys; the two lists are no struct, since each call takes the front of both off.
 pub(crate) fn push_all<F: Family>(levels: &mut [Level<F>], keys: &[u32], tag: u64)
     requires { 32 * length levels.old ≤ length keys.now }
     ensures { (ts : List ℕ) → LevelsHold F.meaning keys.now levels.old ts → LevelsHold F.meaning keys.now levels.new (ts ++ tag ∷ []) }

@@ -16,18 +16,6 @@ pub(crate) struct Output<'a> {
     pub(crate) used: usize,
 }
 
-// Writes an answer behind the first `used` bytes, and says how many are used then.
-fn write_answer(answers: &mut [u8], used: usize, answer: Answer) -> usize
-    requires { used + length (answer_bytes answer) ≤ length answers.old }
-    ensures end { result ≡ used + length (answer_bytes answer) }
-    ensures buffer { answers.new ≡ put used (answer_bytes answer) answers.old }
-{
-    let encoding = answer.encode();
-    let end = used + encoding.len();
-    answers[used..end].copy_from_slice(encoding.as_slice());
-    end
-}
-
 // The answer to what stands at `place`, if it has one.
 fn reply(place: u32, res: Result<Option<Answer>, Refusal>) -> Option<Answer>
     ensures { option_to_list result ≡ replies place res }
@@ -36,13 +24,24 @@ fn reply(place: u32, res: Result<Option<Answer>, Refusal>) -> Option<Answer>
 }
 
 impl Output<'_> {
+    // Writes an answer behind those that are there.
+    fn write(&mut self, answer: Answer)
+        requires { self.old.used + length (answer_bytes answer) ≤ length self.old.answers.now }
+        ensures { Writes (answer_bytes answer) self.old self.new }
+    {
+        let bytes = answer.encode();
+        let end = self.used + bytes.len();
+        self.answers[self.used..end].copy_from_slice(bytes.as_slice());
+        self.used = end;
+    }
+
     // Writes the answer to what stands at `place`, if it has one.
     pub(crate) fn respond(&mut self, place: u32, res: Result<Option<Answer>, Refusal>)
         requires { self.old.used + length (answers_bytes (replies place res)) ≤ length self.old.answers.now }
         ensures { Writes (answers_bytes (replies place res)) self.old self.new }
     {
         if let Some(answer) = reply(place, res) {
-            self.used = write_answer(self.answers, self.used, answer);
+            self.write(answer);
         }
     }
 }

@@ -11,7 +11,7 @@ use crate::session::{Desk, Session};
 use families::Family;
 use pads::Sheet;
 
-// Obeys what is left of a line.
+// Obeys what is left of a line. A fault is answered, and ends it, so it is no `?`.
 pub(crate) fn serve<F: Family>(desk: Desk<Sheet<'_>>, commands: Commands, output: &mut Output)
     requires { HasRoom commands output.old }
     ensures { Writes (answers_from F.meaning desk.entry.card commands.entry.line.now commands.entry.at (state_at (λ s. s.pads.now) desk.entry Nothing)) output.old output.new }

@@ -29,6 +29,7 @@ fn reason(error: CheckError) -> &'static str {
     }
 }
 
+// Granted or refused, a line is printed.
 pub fn check(
     rt: &HostRuntime,
     table: &mut TableBook<Sheet>,

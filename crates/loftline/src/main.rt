@@ -23,6 +23,7 @@ fn run(rt: &HostRuntime) -> Result<(), Fault> {
         &mut answers,
     );
     let mut output = rt.stdout();
+    // Answered or refused, bytes are written; the answers lie in a lent buffer, which the line counts.
     match result {
         Ok(count) => output.write_all(&answers[0..count])?,
         Err(refusal) => {

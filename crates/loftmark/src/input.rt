@@ -23,6 +23,7 @@ fn feed_input<F: Family>(rt: &HostRuntime, job: &mut OpenJob<F>) -> Result<(), F
 {
     let mut piece = [0u8; PIECE];
     let mut input = rt.stdin();
+    // Whoever sends may never end, so the pieces are bounded by a count.
     for _ in 0..u64::MAX {
         let n = input.read(&mut piece)?;
         if n == 0 {

@@ -22,7 +22,7 @@ const ANSWERS: [u8; 30] = [
     27, 0, 0, 0,
 ];
 
-// Whether a line over the two pads gives these answers.
+// Whether a line over the two pads gives these answers, which lie in a lent buffer that the line counts.
 fn answers(card: &[u8], line: &[u8], expected: &[u8]) -> bool {
     let mut buffer = [0u8; ANSWERS_ROOM];
     let result = run_line(card, &SHEET, line, &mut buffer);

@@ -13,7 +13,8 @@ fn column(heap: Global, text: &str) -> anyhow::Result<Vec<u8>> {
     hex::decode(heap, text).map_err(|_| anyhow!("lines.tsv has a column that is not hexadecimal"))
 }
 
-// What the program loftline writes for these contents of its files, written once more, since a program gives no functions.
+// What the program loftline writes for these contents of its files, written once more, since a program gives no functions:
+// answered or refused, there are bytes. The answers lie in a lent buffer, which the line counts.
 fn output(heap: Global, card: &[u8], sheet: &[u8], line: &[u8]) -> Result<Vec<u8>, AllocError> {
     let mut answers = [0u8; ANSWERS_ROOM];
     match run_line(card, sheet, line, &mut answers) {
