@@ -1,5 +1,5 @@
 -- What a stream holds, from one part of a document to the next.
-use Rattle.std.proofs.Common.{◌≡◌, ℕ, ◌+◌, ◌^◌, ◌<◌, ◌≤◌, List, [], ◌∷◌, ◌++◌, map, length, get_or, take, drop, sym, ap, ◌∙◌, subst, arith}
+use Rattle.std.proofs.Common.{◌≡◌, ℕ, ◌^◌, ◌<◌, ◌≤◌, List, [], ◌∷◌, ◌++◌, map, length, get_or, take, drop, sym, ap, ◌∙◌, subst, arith}
 use mathlib.Core.List.{map-map}
 use Rattle.std.proofs.lemmas.List.{map_push, length-map}
 use Rattle.families.specs.Meanings.{Meaning}
@@ -32,15 +32,6 @@ module _ {F : Type 0} (m : Meaning) (s s' : Stream F) (block : List ℕ) (tag : 
   -- a block that came while none waited
   pub passed : s.block.items ≡ [] → StreamHolds m card s' (doc ++ block)
   passed is = tagged (doc ++ block) (split-append block (subst (Split 128 doc h.whole) is h.split) (omega arith))
-
--- a part was copied behind what waited
-pub copied : {F : Type 0} (m : Meaning) (s s' : Stream F) (part : List ℕ) → s'.levels ≡ s.levels → s'.block.items ≡ s.block.items ++ part → length s.block.items + length part ≤ 128
-    → (card doc : List ℕ) → StreamHolds m card s doc → StreamHolds m card s' (doc ++ part)
-copied m s s' part levels block room card doc h = record {
-  whole = h.whole;
-  split = subst (Split 128 (doc ++ part) h.whole) (sym block) (split-append part h.split room);
-  above = subst (λ ls. LevelsHold m (drop 32 card) ls (map (bytes_tag m card) h.whole)) (sym levels) h.above;
-}
 
 -- a stream that is closed gives the tag of all that it took
 module _ {F : Type 0} (m : Meaning) (s : Stream F) (tag r : ℕ) (card keys : List ℕ) where

@@ -7,7 +7,7 @@ use Rattle.jobs.specs.Roots.{Job}
 use Rattle.jobs.specs.Jobs.{Holds, feed_answer, fed}
 use Rattle.jobs.specs.declared.state.ClosedJob.{ClosedJob}
 use Rattle.jobs.specs.declared.state.OpenJob.{OpenJob}
-use Rattle.books.specs.Office.{taken, sealed, struck}
+use Rattle.books.specs.Office.{taken, sealed}
 use Rattle.books.specs.Table.{checked}
 use Rattle.books.specs.Views.{office_view, table_view}
 use Rattle.books.specs.declared.refusals.CheckError.{CheckError}
@@ -17,7 +17,7 @@ use Rattle.books.specs.declared.refusals.TakeError.{TakeError}
 use Rattle.books.specs.declared.refusals.WrongPad.{WrongPad}
 use Rattle.books.specs.declared.table_book.TableBook.{TableBook}
 use Rattle.line.specs.Faults.{take_refusal, check_refusal}
-use Rattle.line.specs.Sessions.{feeds, seals, checks, strikes}
+use Rattle.line.specs.Sessions.{feeds, seals, checks}
 use Rattle.line.specs.Standing.{Stands, Ends, Does, idle}
 use Rattle.line.specs.declared.answer.Answer.TheVariants.{Sealed, Accepted}
 use Rattle.line.specs.declared.refusal.Refusal.TheVariants as refusal
@@ -65,17 +65,6 @@ module _ {F S : Type 0} {G : Ghosts F} {H : Pads S} (m : Meaning) (pads : S → 
       (result_map_both (λ x. Some (Sealed x.0 x.1)) (λ _. refusal.Book book.WrongPad) r) (seals m before.desk.card)
   seals_closed before after closed took office pad r rest ends took_answer took_book answer book None stands = search rules
   seals_closed before after closed took office pad r rest ends took_answer took_book answer book (Some job) stands = search rules
-
-  -- a striking leaves the open job as it is
-  pub strikes_refused :
-      (before : Session F S G H) (took office : OfficeBook S H) (pad : Pad) (e : WrongPad) →
-      Ok pad ≡ (taken (office_view pads before.desk.office)).0 →
-      office_view pads took ≡ (taken (office_view pads before.desk.office)).1 →
-      Err e ≡ (struck pad (office_view pads took)).0 →
-      office_view pads office ≡ (struck pad (office_view pads took)).1 →
-      Does pads m before (record { desk = record { card = before.desk.card; office = office; table = before.desk.table }; job = before.job })
-      (Err (refusal.Book book.WrongPad)) strikes
-  strikes_refused before took office pad e took_answer took_book answer book job stands = search rules
 
   -- the open job takes a piece
   pub feeds_open :

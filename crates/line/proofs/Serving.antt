@@ -1,5 +1,5 @@
 -- The loop over a session's commands.
-use Rattle.std.proofs.Common.{◌≡◌, ℕ, ◌+◌, ◌-◌, ◌*◌, ◌≤◌, List, ◌++◌, length, drop, None, Ok, Err, Option, Result, refl, sym, ap, ◌∙◌, arith}
+use Rattle.std.proofs.Common.{◌≡◌, ℕ, ◌+◌, ◌-◌, ◌*◌, ◌≤◌, List, ◌++◌, length, drop, None, Ok, Err, Option, Result, sym, ap, ◌∙◌, arith}
 use Rattle.families.specs.Meanings.{Meaning}
 use Rattle.families.specs.declared.family.Family.{Ghosts}
 use Rattle.pads.specs.declared.source.PadSource.{Ghosts as Pads}
@@ -7,7 +7,7 @@ use Rattle.jobs.specs.Roots.{Job}
 use Rattle.line.specs.Buffers.{answers_bytes}
 use Rattle.line.specs.Commands.{Order, first, width}
 use Rattle.line.specs.Lines.{answers_from}
-use Rattle.line.specs.Outputs.{HasRoom, Left, Writes}
+use Rattle.line.specs.Outputs.{Left, Writes}
 use Rattle.line.specs.Sessions.{Reply, replies, obeyed, finished}
 use Rattle.line.specs.Standing.{Goes, Stands, state_at, state_of}
 use Rattle.line.specs.Steps.{Step, past}
@@ -19,7 +19,7 @@ use Rattle.line.specs.declared.refusal.Refusal.TheVariants as refusal
 use Rattle.line.specs.declared.session.Desk.{Desk}
 use Rattle.line.specs.declared.session.Session.{Session}
 use Rattle.line.proofs.Puts.{left_next, left_end, writes_long}
-use Rattle.line.proofs.Turns.{from_next, from_stop, from_end, room, owes, end_short}
+use Rattle.line.proofs.Turns.{from_next, from_stop, from_end, room, owes}
 
 module _ {F S : Type 0} {G : Ghosts F} {H : Pads S} (m : Meaning) (pads : S → List ℕ) where
   -- The session stands for a job, and what is left of the line answers the rest of what it answers from the start. Behind
@@ -33,21 +33,6 @@ module _ {F S : Type 0} {G : Ghosts F} {H : Pads S} (m : Meaning) (pads : S → 
     pub left :
         Left (answers_from m desk.card commands.line.now commands.at (state_at pads desk None))
         (answers_from m session.desk.card rest.line.now rest.at (state_of pads session job)) held output
-
-  pub serves_start :
-      (desk : Desk S H) (session : Session F S G H) (commands : Commands) (output : Output) →
-      session ≡ record { desk = desk; job = None } →
-      HasRoom commands output →
-      Serves desk session commands commands output output
-  serves_start desk session commands output is room =
-      rw is (record {
-        job = None;
-        stands = tt;
-        same_card = refl;
-        same_line = refl;
-        room = omega arith;
-        left = record { same_buffer = refl; end = refl; buffer = refl };
-      })
 
   -- a command is obeyed, and its answer is written
   pub serves_on :
@@ -89,10 +74,6 @@ module _
     {F S : Type 0} {G : Ghosts F} {H : Pads S} {m : Meaning} {pads : S → List ℕ} {desk : Desk S H} {session : Session F S G H} {commands rest : Commands} {held output : Output}
     (on : Serves m pads desk session commands rest held output)
   where
-    -- any answer to what stands at a place fits
-    pub room_on : {after : Commands} {given : ℕ × Result Command LineFault} → Step rest after given → output.used + 13 ≤ length output.answers.now
-    room_on step = omega (arith, on.room, step.place, step.inside)
-
     -- a fault is the last
     pub serves_stop :
         {after : Commands} {given : ℕ × Result Command LineFault} {now : Output} (fault : LineFault) →
@@ -105,12 +86,6 @@ module _
         (rw step.place (from_stop m session.desk.card rest.line.now rest.at (state_of pads session on.job) fault (omega (arith, step.place, step.inside)) is)) w
 
     -- at the end no job may be open
-    pub end_fits :
-        (reply : Reply) (place : ℕ) →
-        reply ≡ finished on.job →
-        output.used + length (answers_bytes (replies place reply)) ≤ length output.answers.now
-    end_fits reply place is = let h = end_short place on.job in rw is (omega (arith, on.room))
-
     pub serves_end :
         {now : Output} (reply : Reply) →
         rest.at ≡ length rest.line.now →

@@ -135,10 +135,6 @@ owes_few : (job : Option Job) → owes job ≤ 7
 owes_few None = omega arith
 owes_few (Some job) = omega arith
 
-pub end_short : (long : ℕ) (job : Option Job) → length (answers_bytes (replies long (finished job))) ≤ owes job
-end_short long None = omega arith
-end_short long (Some job) = omega arith
-
 seal_ends : (modulus root : ℕ) (r : Result Pad TakeError) (office : Office) (s : State) → s.job ≡ None → (seals_with modulus root r office s).1.job ≡ None
 seal_ends modulus root (Err e) office s h = h
 seal_ends modulus root (Ok pad) office s h = h

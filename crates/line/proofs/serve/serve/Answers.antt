@@ -1,22 +1,7 @@
-use Rattle.std.proofs.Common.{sym, arith}
+use Rattle.std.proofs.Common.{sym}
 use Rattle.line.specs.Commands.{order_of}
-use Rattle.line.proofs.Serving.{serves_start, serves_on, serves_stop, serves_end, room_on, end_fits}
-use Rattle.line.proofs.Turns.{reply_short}
+use Rattle.line.proofs.Serving.{serves_on, serves_stop, serves_end}
 use Rattle.line.proofs.serve.serve.Goals as goal
-
-pub loop-place-init : goal.loop-place-init
-loop-place-init g c =
-    rw c.into_iter-place-iterator.ensures.into_iter_gives
-    (serves_start g.F.Family.meaning (λ s. s.pads.now) c.args.desk c.new-session.result c.args.commands c.args.output.now c.new-session.ensures c.requires)
-
-pub respond-requires : goal.respond-requires
-respond-requires g c = omega (arith, room_on c.loop-place.invariant c.in-Some.ensures.steps, reply_short)
-
-pub respond-requires-in-Err : goal.respond-requires-in-Err
-respond-requires-in-Err g c = omega (arith, room_on c.loop-place.invariant c.in-Some.ensures.steps, reply_short)
-
-pub respond-requires-2 : goal.respond-requires-2
-respond-requires-2 g c = let on = c.loop-place.invariant in end_fits on c.finish.result c.end-end.result (c.finish.ensures on.job on.stands)
 
 pub loop-place-preserved : goal.loop-place-preserved
 loop-place-preserved g c =
