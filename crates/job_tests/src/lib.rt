@@ -42,7 +42,7 @@ mod tests {
     fn the_longest_document(rt: HostRuntime) -> Result<(), Fail> {
         let piece = [5u8; 65536];
         let mut job = OpenJob::<Nh>::open(&[1; 164], 3)?;
-        // As many times 65,536 bytes as a document may have.
+        // A repetition, and no count of places: as many times 65,536 bytes as a document may have.
         for _ in 0..128 {
             job.feed(&piece)?;
         }

@@ -11,7 +11,8 @@ pub(crate) fn read_words<const N: usize>(bytes: &[u8]) -> [u32; N]
     requires { length bytes.now ≡ 4 * N }
     ensures { result ≡ words_of N bytes.now }
 {
-    // A zip of words says nothing of what was written, so a word's place names its four bytes.
+    // As pads are read, but in fours: numbers of two widths have no trait in common. A zip of words says nothing of what
+    // was written, so a word's place names its four bytes.
     let (fours, _) = bytes.as_chunks::<4>();
     let mut words = [0; N];
     for (i, word) in words.iter_mut().enumerate() {

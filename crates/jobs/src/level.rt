@@ -13,7 +13,7 @@ use families::Family;
 use std::marker::PhantomData;
 
 // The words of a level's stretch of the card.
-const STRETCH: usize = 32;
+pub(crate) const STRETCH: usize = 32;
 
 impl<F: Family> Level<F> {
     // A level that has taken nothing.
@@ -73,7 +73,7 @@ pub(crate) fn push_all<F: Family>(levels: &mut [Level<F>], keys: &[u32], tag: u6
     }
 }
 
-// The one tag that the highest of some levels gives, once the last tag is in.
+// The one tag that the highest of some levels gives, once the last tag is in. Levels and keys are no struct here either.
 pub(crate) fn top<F: Family>(levels: &mut [Level<F>], keys: &[u32], last: u64) -> u64
     requires { 32 * length levels.old ≤ length keys.now }
     ensures { (ts : List ℕ) → LevelsHold F.meaning keys.now levels.old ts → length ts < 16 ^ length levels.old → result ≡ slice_index (climb F.meaning (length levels.old) keys.now (ts ++ last ∷ [])) 0 }

@@ -15,6 +15,6 @@ mod tag;
 pub use card::{CardError, read_card};
 pub use examples::worked_examples;
 pub use laws::layout_laws;
-pub use open_job::TooLong;
+pub use open_job::{LIMIT, TooLong};
 pub use state::{ClosedJob, OpenJob};
 pub use tag::split_tag;

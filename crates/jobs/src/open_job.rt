@@ -10,7 +10,7 @@ use families::Family;
 use std::marker::PhantomData;
 
 // The most bytes of a document.
-const LIMIT: usize = 8_388_608;
+pub const LIMIT: usize = 8_388_608;
 
 // Where the words of the root begin on the card.
 const ROOT: usize = 160;

@@ -22,7 +22,8 @@ pub(crate) struct Stream<F: Family> {
 // A job that is being fed: its own copy of the key card, its label, and the document so far.
 #[derive(Drop)]
 pub struct OpenJob<F: Family> {
-    // It goes to the stream with each call: a part of an array that lies beside a lent field gets no proof yet.
+    // Whole, since each level reads a part of it that starts in the middle; it goes to the stream with each call, since a
+    // part of an array that lies beside a lent field gets no proof yet.
     pub(crate) card: [u32; 164],
     pub(crate) stream: Stream<F>,
     pub(crate) label: u32,

@@ -5,16 +5,13 @@ ghost use Rattle.jobs.specs.Roots.{top_tag};
 ghost use Rattle.jobs.specs.Holding.{StreamHolds};
 
 use crate::block::{last_tag, stretch, whole_tag};
-use crate::level::{push_all, top};
+use crate::level::{STRETCH, push_all, top};
 use crate::state::{Level, Stream};
 use arrayvec::ArrayVec;
 use families::Family;
 
 // The bytes of a block of level 1.
 const BLOCK: usize = 128;
-
-// Where the words of level 2 begin on the card.
-const SECOND: usize = 32;
 
 impl<F: Family> Stream<F> {
     // A stream that has taken nothing.
@@ -35,7 +32,7 @@ impl<F: Family> Stream<F> {
         ensures holds { (doc : List ℕ) → StreamHolds F.meaning card.now self.old doc → StreamHolds F.meaning card.now self.new doc }
     {
         let tag = last_tag::<F>(stretch(card), self.block.as_slice());
-        push_all(&mut self.levels, &card[SECOND..], tag);
+        push_all(&mut self.levels, &card[STRETCH..], tag);
         self.block.clear();
     }
 
@@ -46,7 +43,7 @@ impl<F: Family> Stream<F> {
         ensures holds { (doc : List ℕ) → StreamHolds F.meaning card.now self.old doc → StreamHolds F.meaning card.now self.new (doc ++ block.now) }
     {
         let tag = whole_tag::<F>(stretch(card), block);
-        push_all(&mut self.levels, &card[SECOND..], tag);
+        push_all(&mut self.levels, &card[STRETCH..], tag);
     }
 
     // Copies bytes for which there is room behind those that wait.
@@ -91,6 +88,6 @@ impl<F: Family> Stream<F> {
         ensures { (doc : List ℕ) → StreamHolds F.meaning card.now self doc → (0 < length doc → 0 < array_vec_len self.block) → length doc ≤ 8388608 → result ≡ top_tag F.meaning card.now doc }
     {
         let tag = last_tag::<F>(stretch(card), self.block.as_slice());
-        top(&mut self.levels, &card[SECOND..], tag)
+        top(&mut self.levels, &card[STRETCH..], tag)
     }
 }

@@ -67,6 +67,7 @@ impl<'a> Iterator for Commands<'a> {
         }
         let place = self.at;
         let read = read_command(self.line, place);
+        // A fault is the last.
         self.at = match read {
             Ok(command) => place + command.size(),
             Err(_) => self.line.len(),

@@ -11,10 +11,7 @@ use std::fs;
 // The label of every job of this program.
 const LABEL: u32 = 7;
 
-// The bytes of a pad.
-const PAD: usize = 8;
-
-// Loftmark reads its card with a fault of its own; the two programs share no crate.
+// Loftmark reads its card with a fault of its own; there is no crate for what programs share.
 pub fn read_card_file(rt: &HostRuntime) -> anyhow::Result<[u32; 164]> {
     let bytes = fs::read(rt, "card.bin")?;
     let card = read_card(bytes.as_slice()).map_err(|_| anyhow!("card.bin is not 656 bytes long"))?;
@@ -27,11 +24,13 @@ pub fn read_sheet_file(rt: &HostRuntime) -> anyhow::Result<Vec<u64>>
     ensures { IfOk result (λ pads. vec_len pads ≤ 256) }
 {
     let bytes = fs::read(rt, "sheet.bin")?;
-    let mut pads = vec![in rt.alloc(); 0u64; bytes.len() / PAD]?;
-    let count = read_sheet(bytes.as_slice(), pads.as_mut_slice()).map_err(|_| anyhow!(
+    let sheet = bytes.as_slice();
+    let count = read_sheet(sheet, &mut []).map_err(|_| anyhow!(
         "sheet.bin is no whole number of pads"
     ))?;
-    ensure!(pads.len() <= MOST_PADS, "sheet.bin has more than 256 pads");
+    ensure!(count <= MOST_PADS, "sheet.bin has more than 256 pads");
+    let mut pads = vec![in rt.alloc(); 0u64; count]?;
+    let _ = read_sheet(sheet, pads.as_mut_slice());
     println!(rt; "sheet   {count} pads read from sheet.bin")?;
     Ok(pads)
 }

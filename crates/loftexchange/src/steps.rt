@@ -1,9 +1,13 @@
 // What the office and the table do, a line for each step.
 use anyhow::{anyhow, ensure};
-use books::{CheckError, MOST_PADS, OfficeBook, TableBook};
+use books::{CheckError, MOST_PADS, OfficeBook, Pad, TableBook};
 use families::Nh;
 use jobs::ClosedJob;
 use pads::Sheet;
+
+fn take(office: &mut OfficeBook<Sheet>) -> anyhow::Result<Pad> {
+    office.take().map_err(|_| anyhow!("no pad to take"))
+}
 
 pub fn seal(
     rt: &HostRuntime,
@@ -11,7 +15,7 @@ pub fn seal(
     job: &ClosedJob<Nh>,
     name: &str,
 ) -> anyhow::Result<(u32, u64)> {
-    let pad = office.take().map_err(|_| anyhow!("no pad to take"))?;
+    let pad = take(office)?;
     let (number, tag) = office
         .seal(pad, job)
         .map_err(|_| anyhow!("the pad was refused"))?;
@@ -49,7 +53,7 @@ pub fn check(
 }
 
 pub fn strike(rt: &HostRuntime, office: &mut OfficeBook<Sheet>) -> anyhow::Result<()> {
-    let pad = office.take().map_err(|_| anyhow!("no pad to take"))?;
+    let pad = take(office)?;
     let number = pad.number();
     office
         .strike(pad)
@@ -63,7 +67,7 @@ pub fn lose(rt: &HostRuntime, office: &mut OfficeBook<Sheet>, sheet: Sheet) -> a
     let mut other = OfficeBook::open(sheet).map_err(|_| anyhow!(
         "the sheet does not have 1 to 256 pads"
     ))?;
-    let pad = office.take().map_err(|_| anyhow!("no pad to take"))?;
+    let pad = take(office)?;
     ensure!(other.strike(pad).is_err(), "another book took the pad");
     let number = office.call_in().map_err(|_| anyhow!("no pad was out"))?;
     println!(rt; "office  its pad of number {number} went to another book; calls it in")?;

@@ -34,7 +34,7 @@ fn run(rt: &HostRuntime) -> Result<(), Fault> {
     Ok(())
 }
 
-// As loftmark's: two programs share no crate.
+// As loftmark's: there is no crate for what programs share.
 fn main(rt: HostRuntime) -> ExitCode {
     if let Err(fault) = run(&rt) {
         let _ = eprintln!(rt; "loftline: {fault}");

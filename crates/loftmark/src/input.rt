@@ -12,6 +12,7 @@ use std::{fs, io};
 // The most bytes that are asked for at a time.
 const PIECE: usize = 65536;
 
+// Loftexchange reads its card with an error of its own; there is no crate for what programs share.
 pub fn read_card_file(rt: &HostRuntime) -> Result<[u32; 164], Fault> {
     let bytes = fs::read(rt, "card.bin").map_err(|_| Fault::NoCard)?;
     Ok(read_card(bytes.as_slice())?)

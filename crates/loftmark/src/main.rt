@@ -31,7 +31,7 @@ fn run(rt: &HostRuntime) -> Result<(), Fault> {
     }
 }
 
-// As loftline's: two programs share no crate.
+// As loftline's: there is no crate for what programs share.
 fn main(rt: HostRuntime) -> ExitCode {
     if let Err(fault) = run(&rt) {
         let _ = eprintln!(rt; "loftmark: {fault}");

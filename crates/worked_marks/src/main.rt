@@ -11,6 +11,7 @@ mod vectors;
 use anyhow::Context;
 use examples::compare_examples;
 use families::{Family, Mmh, MmhStar, Nh, Nhs};
+use jobs::LIMIT;
 use lines::compare_lines;
 use pieces::{Feeding, root_tag};
 use std::fs;
@@ -18,7 +19,7 @@ use tally::Tally;
 use vectors::{Vector, Vectors};
 
 // The lengths of the pieces; the uneven ones straddle 128, 2,048 and 32,768 bytes.
-const WHOLE: [usize; 1] = [8_388_608];
+const WHOLE: [usize; 1] = [LIMIT];
 
 const BYTES: [usize; 1] = [1];
 

@@ -1,13 +1,11 @@
 // The lines of marks.tsv.
 use crate::pieces::Feeding;
 use anyhow::anyhow;
-use jobs::read_card;
+use jobs::{LIMIT, read_card};
 use std::alloc::{AllocError, Global};
 use std::fs;
 use std::iter::Skip;
 use std::str::Lines;
-
-const LONGEST: usize = 8_388_608;
 
 // A card by its name, a label, a document by its rule, and the root tag that it should have.
 #[derive(Drop)]
@@ -59,11 +57,11 @@ impl<'a> Vectors<'a> {
 }
 
 impl Vector<'_> {
-    // A byte past the limit can only follow the longest document.
+    // A byte past the limit can only follow the longest document. A case that is asked here and where it is fed.
     pub fn suits(&self, feeding: Feeding) -> bool {
         match feeding {
             Feeding::Pieces(_) => true,
-            Feeding::PastLimit => self.length == LONGEST,
+            Feeding::PastLimit => self.length == LIMIT,
         }
     }
 
