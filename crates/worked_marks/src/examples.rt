@@ -90,6 +90,7 @@ fn limits(rt: &HostRuntime, card: &[u8]) -> anyhow::Result<[bool; 8]> {
 // Prints how many agree of each group.
 pub fn compare_examples(rt: &HostRuntime) -> anyhow::Result<()> {
     let card = fs::read(rt, "card-ones.bin")?;
+    // As Vector::card, but with the file's bytes kept, and a message of its own: one function would be no plainer.
     let words = read_card(card.as_slice()).map_err(|_| anyhow!(
         "card-ones.bin is not 656 bytes long"
     ))?;

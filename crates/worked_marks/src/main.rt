@@ -69,6 +69,7 @@ fn compare<F: Family>(rt: &HostRuntime, text: &str, name: &str) -> anyhow::Resul
 
 fn run(rt: &HostRuntime) -> anyhow::Result<()> {
     let marks = fs::read_to_string(rt, "marks.tsv")?;
+    // The names are the titles in marks.tsv; a Display would have to be written into memory to be compared with them.
     compare::<Nh>(rt, marks.as_str(), "NH")?;
     compare::<Nhs>(rt, marks.as_str(), "NHS")?;
     compare::<MmhStar>(rt, marks.as_str(), "MMH*")?;

@@ -24,6 +24,7 @@ fn next_size(turn: Option<&usize>, left: usize) -> usize
     turn.map_or(left, |size| (*size).max(1).min(left))
 }
 
+// The two cases of `root_tag`, with its clause: no plainer as methods of a struct that they alone would have.
 fn in_pieces<F: Family>(card: &[u32], label: u32, document: &[u8], sizes: &[usize]) -> Option<u64>
     ensures { IfSome result (λ tag. tag ≡ root_tag F.meaning card.now (fed (fresh label) document.now)) }
 {
