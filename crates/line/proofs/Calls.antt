@@ -23,12 +23,7 @@ use Rattle.line.specs.declared.answer.Answer.TheVariants.{Sealed, Accepted}
 use Rattle.line.specs.declared.refusal.Refusal.TheVariants as refusal
 use Rattle.line.specs.declared.refusal.BookFault.TheVariants as book
 use Rattle.line.specs.declared.session.Session.{Session}
-use Rattle.std.specs.Result.{result_map_both, IsErrAnd}
-
--- a result that is an error of which something is known
-pub error_is : {T E : Type 0} (r : Result T E) (e : E) → IsErrAnd r (λ x. x ≡ e) → r ≡ Err e
-error_is (Ok x) e h = absurd h
-error_is (Err x) e h = ap Err h
+use Rattle.std.specs.Result.{result_map_both}
 
 module _ {F S : Type 0} {G : Ghosts F} {H : Pads S} (m : Meaning) (pads : S → List ℕ) where
   pub checks_closed :
