@@ -1,6 +1,6 @@
 // MMH: the sum of the products of key and message words modulo 2^64, reduced once by the prime 2^32 + 15, then by 2^32.
-ghost use Rattle.std.specs.Prelude.{◌^◌, refl};
-ghost use Rattle.families.specs.Dots.{mmh, products};
+ghost use Rattle.std.specs.Prelude.{◌≡◌, ◌%◌, ◌^◌, refl};
+ghost use Rattle.families.specs.Dots.{dot, mmh, products};
 ghost use Rattle.families.specs.Laws.Wraps.{mmh_lawful};
 
 use crate::family::Family;
@@ -22,6 +22,15 @@ impl Pairing for Mmh {
     }
 }
 
+impl Keyed<'_> {
+    // The sum of the products of key and message words modulo 2^64.
+    fn wrapping_dot(&self) -> u64
+        ensures { result ≡ dot self.now.keys.now self.now.words.now % 2 ^ 64 }
+    {
+        self.pair_sum::<Mmh>()
+    }
+}
+
 impl Family for Mmh {
     ghost meaning = { mmh };
 
@@ -38,6 +47,6 @@ impl Family for Mmh {
     ghost lawful = { mmh_lawful };
 
     fn keyed_tag(keyed: &Keyed<'_>) -> u64 {
-        keyed.pair_sum::<Self>() % PRIME % TAGS
+        keyed.wrapping_dot() % PRIME % TAGS
     }
 }
