@@ -17,9 +17,10 @@ fn write_pads(bytes: &[u8], places: &mut [u64])
     // what was written.
     let (pads, _) = bytes.as_chunks::<WIDTH>();
     for (number, place) in places.iter_mut().enumerate() {
-        if let Some(pad) = pads.get(number) {
-            *place = u64::from_le_bytes(*pad);
-        }
+        let Some(pad) = pads.get(number) else {
+            return;
+        };
+        *place = u64::from_le_bytes(*pad);
     }
 }
 
