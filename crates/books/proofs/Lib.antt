@@ -4,6 +4,7 @@ pub mod Marks
 pub mod Moves
 pub mod Openings
 pub mod Passes
+pub mod Questions
 pub mod Steps
 pub mod Strucks
 pub mod Tags

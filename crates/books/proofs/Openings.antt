@@ -1,6 +1,8 @@
 -- When a book is opened, and what the openings of both answer together.
-use Rattle.std.proofs.Common.{◌≡◌, ℕ, ◌≤◌, Bool, true, false, cond, ◌&&◌, leb, List, length, Ok, Err, Result, refl, ap, ◌∙◌}
+use Rattle.std.proofs.Common.{◌≡◌, ℕ, ◌≤◌, Bool, true, false, cond, ◌&&◌, leb, List, length, take, Ok, Err, Result, refl, ap, ◌∙◌, arith}
 use Rattle.std.proofs.lemmas.Bool.{and_parts, leb-true}
+use Rattle.std.proofs.lemmas.List.{take_all}
+use Rattle.books.specs.Office.{opened}
 use Rattle.books.specs.Opening.{fits, opening}
 use Rattle.books.specs.Runs.{started, starting}
 use Rattle.books.specs.declared.refusals.PadCountError.{PadCountError}
@@ -18,6 +20,12 @@ granted n a b h = granted_by (fits n) a b h
 
 pub few : (n : ℕ) → fits n ≡ true → n ≤ 256
 few n e = leb-true n 256 (and_parts (leb 1 n) (leb n 256) e).1
+
+-- an office book, over the first 256 of its pads
+pub office_opened : (ps : List ℕ) (n : ℕ) (u : Unit {0}) → n ≡ length ps → Ok u ≡ opening n tt → Ok (opened (take 256 ps)) ≡ opening (length ps) (opened ps)
+office_opened ps n u e h =
+    let fit : fits n ≡ true = (granted n u tt h).0 in
+    rw (take_all 256 ps (omega (arith, e, few n fit)), ← e, fit)
 
 -- both books
 pub both_opened : (ps qs : List ℕ) → fits (length ps) ≡ true → fits (length qs) ≡ true → starting ps qs ≡ Ok (started ps qs)

@@ -1,8 +1,9 @@
 // The calls on the office book.
-ghost use Rattle.std.specs.Prelude.{◌≡◌, ◌<◌, length};
+ghost use Rattle.std.specs.Prelude.{◌≡◌, ◌<◌, length, take, OnOk};
 ghost use Rattle.books.specs.Office.{opened, taken, held, spent, used, struck, sealed, called_in};
 ghost use Rattle.books.specs.Opening.{opening};
 ghost use Rattle.books.specs.Views.{office_view};
+ghost use Rattle.pads.specs.Sources.{asked};
 ghost use Rattle.std.specs.Result.{result_map_both};
 
 use crate::fate::Fate;
@@ -12,7 +13,7 @@ use crate::pad::Pad;
 use crate::refusals::{NoneOut, PadCountError, TakeError, WrongPad};
 use families::Family;
 use jobs::ClosedJob;
-use pads::PadSource;
+use pads::{NoSuchPad, PadSource};
 
 impl<S: PadSource> OfficeBook<S> {
     // A book over 1 to 256 pads, with none taken.
@@ -22,21 +23,41 @@ impl<S: PadSource> OfficeBook<S> {
         ensures { result_map_both (office_view S.pads) (λ e. e) result ≡ opening (length (S.pads source)) (opened (S.pads source)) }
     {
         check_count(source.count())?;
-        Ok(OfficeBook {
+        Ok(Self::fresh(source))
+    }
+
+    // A book with no pad taken, over the first pads of a source.
+    fn fresh(source: S) -> OfficeBook<S>
+        ensures { office_view S.pads result ≡ opened (take 256 (S.pads source)) }
+    {
+        OfficeBook {
             source,
             next: 0,
             out: None,
             fates: [Fate::Unspent; MOST_PADS],
-        })
+        }
+    }
+
+    // The pad of a number.
+    fn pad(&self, number: u32) -> Result<u64, NoSuchPad>
+        ensures answer { result ≡ asked (office_view S.pads self.now).pads number }
+        ensures within { OnOk result (number < 256) }
+    {
+        if number as usize >= MOST_PADS {
+            return Err(NoSuchPad);
+        }
+        self.source.pad(number)
     }
 
     // Records what became of the pad that was out.
     fn use_up(&mut self, number: u32, fate: Fate)
-        requires { number < 256 }
         ensures { office_view S.pads self.new ≡ spent fate number (office_view S.pads self.old) }
     {
         self.out = None;
-        self.fates[number as usize] = fate;
+        let place = number as usize;
+        if place < self.fates.len() {
+            self.fates[place] = fate;
+        }
     }
 
     // Hands out the next number's pad.
@@ -48,7 +69,7 @@ impl<S: PadSource> OfficeBook<S> {
             return Err(TakeError::PadOut);
         }
         let number = self.next;
-        let value = self.source.pad(number).map_err(|_| TakeError::AllTaken)?;
+        let value = self.pad(number).map_err(|_| TakeError::AllTaken)?;
         self.next = number + 1;
         self.out = Some(number);
         Ok(Pad { number, value })
@@ -58,7 +79,7 @@ impl<S: PadSource> OfficeBook<S> {
     fn is_out(&self, pad: &Pad) -> bool
         ensures { result ≡ held pad.now (office_view S.pads self.now) }
     {
-        self.out == Some(pad.number) && self.source.pad(pad.number) == Ok(pad.value)
+        self.out == Some(pad.number) && self.pad(pad.number) == Ok(pad.value)
     }
 
     // Uses the pad up, and records what became of its number if it is out here.

@@ -1,6 +1,4 @@
 // What the office book holds.
-ghost use Rattle.std.specs.Prelude.{◌≡◌, ℕ, ◌<◌, ◌≤◌, length, Some};
-
 use crate::fate::Fate;
 use crate::opening::MOST_PADS;
 use pads::PadSource;
@@ -13,7 +11,4 @@ pub struct OfficeBook<S: PadSource> {
     // The number whose pad is out.
     pub(crate) out: Option<u32>,
     pub(crate) fates: [Fate; MOST_PADS],
-    // A book has 256 pads at most.
-    ghost few: { length (S.pads source) ≤ 256 },
-    ghost out_below: { (n : ℕ) → out ≡ Some n → n < 256 },
 }

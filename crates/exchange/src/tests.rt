@@ -5,7 +5,7 @@ use books::{
 };
 use families::{Family, MmhStar, Nh};
 use jobs::{ClosedJob, OpenJob};
-use pads::{NoSuchPad, Sheet, SplitSheet};
+use pads::{NoSuchPad, PadSource, Sheet, SplitSheet};
 use std::test::Fail;
 
 const PADS: [u64; 3] = [5, 6, 7];
@@ -152,5 +152,52 @@ fn transfers(rt: HostRuntime) -> Result<(), Fail> {
         transfer(Sheet::new(&[]), &job, &job, tag),
         Err(Refusal::Open(PadCountError))
     );
+    Ok(())
+}
+
+// What an office holds, whatever its sources are.
+#[derive(Drop)]
+struct Office<F: Family, A: PadSource, B: PadSource> {
+    book: OfficeBook<SplitSheet<A, B>>,
+    job: OpenJob<F>,
+}
+
+impl<F: Family, A: PadSource, B: PadSource> Office<F, A, B> {
+    fn feed(&mut self, piece: &[u8]) -> bool {
+        self.job.feed(piece).is_ok()
+    }
+
+    fn take(&mut self) -> Option<u32> {
+        let pad = self.book.take().ok()?;
+        let number = pad.number();
+        let _ = self.book.strike(pad);
+        Some(number)
+    }
+}
+
+// Byte by byte, in a function that knows neither sources nor family.
+fn fed_in_office<F: Family, A: PadSource + Drop, B: PadSource + Drop>(
+    book: OfficeBook<SplitSheet<A, B>>,
+    job: OpenJob<F>,
+    document: &[u8],
+) -> Option<(u32, u64)> {
+    let mut office = Office { book, job };
+    for byte in document {
+        if !office.feed(&[*byte]) {
+            return None;
+        }
+    }
+    let number = office.take()?;
+    let Office { book: _, job } = office;
+    Some((number, job.close().root_tag()))
+}
+
+#[test]
+fn an_office_is_generic_in_its_sources(rt: HostRuntime) -> Result<(), Fail> {
+    let sheet = Sheet::new(&PADS);
+    let book = OfficeBook::open(SplitSheet::new(sheet, sheet))?;
+    let job = OpenJob::<Nh>::open(&[3; 164], 1)?;
+    let root = closed::<Nh>(b"keel")?.root_tag();
+    assert_eq!(rt; fed_in_office(book, job, b"keel"), Some((0, root)));
     Ok(())
 }

@@ -1,15 +1,26 @@
 -- Lists cut into blocks.
-use Rattle.std.proofs.Common.{◌≡◌, ℕ, zero, suc, ◌+◌, ◌-◌, ◌*◌, ◌/◌, ◌<◌, ◌≤◌, ◌⊎◌, List, [], ◌∷◌, ◌++◌, length, get_or, take, drop, sym, refl, ap, ◌∙◌, subst, inl, inr, append_assoc, mod-lt, mul_comm, mul-zero, mul-suc, mul-add, arith, length-append}
+use Rattle.std.proofs.Common.{◌≡◌, ℕ, zero, suc, ◌+◌, ◌-◌, ◌*◌, ◌/◌, ◌<◌, ◌≤◌, ◌⊎◌, List, [], ◌∷◌, ◌++◌, length, get_or, take, drop, set, sym, refl, ap, ◌∙◌, subst, inl, inr, append_assoc, mod-lt, mul_comm, mul-zero, mul-suc, mul-add, arith, length-append}
 use native.Mathlib.Nat.{div-eq_of_lt-le, zero-div, div-add-mod}
 use Rattle.std.specs.Simd.{first_chunks}
 use Rattle.std.specs.List.{flat_map, AllByRecursion}
 use Rattle.std.proofs.ByRecursion.{All-push}
-use Rattle.std.proofs.lemmas.List.{append-nil, length-take, length-take-le, length-drop, drop-drop, take_at, drop_at, take_all, take-append-drop, take-take, nil_from_length}
+use Rattle.std.proofs.lemmas.List.{take_more_set, append-nil, length-set, length-take, length-take-le, length-drop, drop-drop, take_at, drop_at, take_all, take-append-drop, take-take, nil_from_length}
 use Rattle.std.proofs.Math.Seq.{take-add}
 use Rattle.std.proofs.lemmas.Grind.{flat_map-append}
 use Rattle.std.proofs.lemmas.Bool.{cases_lt}
 use Rattle.jobs.specs.Cutting.{cut, blocks, Split}
 use Rattle.jobs.specs.Laws.{CutWell}
+
+-- two words written at the end of a front
+pub take_two : (ws : List ℕ) (n a b : ℕ) → 2 * n + 1 < length ws → take (2 * (n + 1)) (set (set ws (2 * n) a) (2 * n + 1) b) ≡ take (2 * n) ws ++ a ∷ b ∷ []
+take_two ws n a b h =
+    let e : 2 * (n + 1) ≡ 2 * n + 1 + 1 = omega arith in
+    let l : 2 * n + 1 < length (set ws (2 * n) a) = simp length-set h in
+    let l' : 2 * n < length ws = omega arith in
+    ap (λ k. take k (set (set ws (2 * n) a) (2 * n + 1) b)) e
+    ∙ take_more_set (set ws (2 * n) a) (2 * n + 1) b l
+    ∙ ap (λ xs. xs ++ b ∷ []) (take_more_set ws (2 * n) a l')
+    ∙ append_assoc (take (2 * n) ws) (a ∷ []) (b ∷ [])
 
 -- the chunk at place i of the first k chunks of n items
 pub chunk_at : {X : Type 0} (n k : ℕ) (xs : List X) (i : ℕ) (d : List X) → i < k → get_or (first_chunks n k xs) i d ≡ take n (drop (n * i) xs)

@@ -16,7 +16,7 @@ bytes_typed xs typed = All-from_get_or (λ x. x < 256) xs 0 (λ i _. (typed i).f
 
 module _ {F : Type 0} {G : Ghosts F} (m : Meaning) (o : OpenJob F G) where
   pub taken : (o' : OpenJob F G) (piece : List ℕ) → Bytes piece → o'.card ≡ o.card → o'.label ≡ o.label → o'.length ≡ o.length + length piece
-      → (0 < length o.stream.block.items + length piece → 0 < length o'.stream.block.items)
+      → (0 < length o.stream.block + length piece → 0 < length o'.stream.block)
       → ((doc : List ℕ) → StreamHolds m o.card o.stream doc → StreamHolds m o.card o'.stream (doc ++ piece))
       → (card : List ℕ) (job : Job) → Holds m card job o → Holds m card (fed job piece) o'
   taken o' piece bytes cards labels long waits holds card job h =
@@ -34,7 +34,7 @@ module _ {F : Type 0} {G : Ghosts F} (m : Meaning) (o : OpenJob F G) where
       }
 
   pub rooted : (tag root : ℕ) → root ≡ m.tag (drop 160 o.card) (root_words tag o.length o.label)
-      → ((doc : List ℕ) → StreamHolds m o.card o.stream doc → (0 < length doc → 0 < length o.stream.block.items) → length doc ≤ 8388608 → tag ≡ top_tag m o.card doc)
+      → ((doc : List ℕ) → StreamHolds m o.card o.stream doc → (0 < length doc → 0 < length o.stream.block) → length doc ≤ 8388608 → tag ≡ top_tag m o.card doc)
       → (card : List ℕ) (job : Job) → Holds m card job o → root ≡ root_tag m card job
   rooted tag root e close card job h =
       let doc = job.document in

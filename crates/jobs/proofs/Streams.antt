@@ -14,7 +14,7 @@ use Rattle.jobs.proofs.Cuts.{split_none, split-append, split_flush, split_long, 
 use Rattle.jobs.proofs.Levels.{tag_of_stretch, empty_level}
 
 -- a full block was tagged, and none waits then
-module _ {F : Type 0} (m : Meaning) (s s' : Stream F) (block : List ℕ) (tag : ℕ) (card keys : List ℕ) (none : s'.block.items ≡ []) (long : length block ≡ 128) (first : keys ≡ take 32 card) (e : tag ≡ bytes_tag m keys block)
+module _ {F : Type 0} (m : Meaning) (s s' : Stream F) (block : List ℕ) (tag : ℕ) (card keys : List ℕ) (none : s'.block ≡ []) (long : length block ≡ 128) (first : keys ≡ take 32 card) (e : tag ≡ bytes_tag m keys block)
     (push : (ts : List ℕ) → LevelsHold m (drop 32 card) s.levels ts → LevelsHold m (drop 32 card) s'.levels (ts ++ tag ∷ [])) (doc : List ℕ) (h : StreamHolds m card s doc) where
   tagged : (doc' : List ℕ) → Split 128 doc' h.whole block → StreamHolds m card s' doc'
   tagged doc' split =
@@ -26,18 +26,18 @@ module _ {F : Type 0} (m : Meaning) (s s' : Stream F) (block : List ℕ) (tag : 
       }
 
   -- the block that waited
-  pub flushed : s.block.items ≡ block → StreamHolds m card s' doc
+  pub flushed : s.block ≡ block → StreamHolds m card s' doc
   flushed is = tagged doc (subst (Split 128 doc h.whole) is h.split)
 
   -- a block that came while none waited
-  pub passed : s.block.items ≡ [] → StreamHolds m card s' (doc ++ block)
+  pub passed : s.block ≡ [] → StreamHolds m card s' (doc ++ block)
   passed is = tagged (doc ++ block) (split-append block (subst (Split 128 doc h.whole) is h.split) (omega arith))
 
 -- a stream that is closed gives the tag of all that it took
 module _ {F : Type 0} (m : Meaning) (s : Stream F) (tag r : ℕ) (card keys : List ℕ) where
-  pub closed : keys ≡ take 32 card → tag ≡ bytes_tag m keys s.block.items → length s.levels ≡ 4
+  pub closed : keys ≡ take 32 card → tag ≡ bytes_tag m keys s.block → length s.levels ≡ 4
       → ((ts : List ℕ) → LevelsHold m (drop 32 card) s.levels ts → length ts < 16 ^ length s.levels → r ≡ get_or (climb m (length s.levels) (drop 32 card) (ts ++ tag ∷ [])) 0 0)
-      → (doc : List ℕ) → StreamHolds m card s doc → (0 < length doc → 0 < length s.block.items) → length doc ≤ 8388608 → r ≡ top_tag m card doc
+      → (doc : List ℕ) → StreamHolds m card s doc → (0 < length doc → 0 < length s.block) → length doc ≤ 8388608 → r ≡ top_tag m card doc
   unfolding top_tag level_tags first_words
   closed first e four top doc h waits small =
       let ts = map (bytes_tag m card) h.whole in
@@ -45,20 +45,20 @@ module _ {F : Type 0} (m : Meaning) (s : Stream F) (tag r : ℕ) (card keys : Li
       let many : length ts ≡ length h.whole = length-map h.whole (bytes_tag m card) in
       let room : 16 ^ length s.levels ≡ 65536 = ap (λ i. 16 ^ i) four in
       let few : length h.whole ≤ 65535 = elim (dec_lt 0 (length doc)) [ yes p ↦ let q = waits p in omega arith | no p ↦ omega arith ] in
-      let tag_is = e ∙ tag_of_stretch m card keys (byte_words s.block.items) first in
+      let tag_is = e ∙ tag_of_stretch m card keys (byte_words s.block) first in
       top ts h.above (omega arith)
       ∙ ap (λ i. get_or (climb m i (drop 32 card) (ts ++ tag ∷ [])) 0 0) four
       ∙ ap (λ us. get_or (climb m 4 (drop 32 card) us) 0 0) (ap (λ t. ts ++ t ∷ []) tag_is ∙ sym (tags doc h waits))
     where
-      tags : (doc : List ℕ) (h : StreamHolds m card s doc) → (0 < length doc → 0 < length s.block.items) → map (block_tag m card) (first_words doc) ≡ map (bytes_tag m card) h.whole ++ bytes_tag m card s.block.items ∷ []
+      tags : (doc : List ℕ) (h : StreamHolds m card s doc) → (0 < length doc → 0 < length s.block) → map (block_tag m card) (first_words doc) ≡ map (bytes_tag m card) h.whole ++ bytes_tag m card s.block ∷ []
       tags doc h waits =
           map-map (block_tag m card) byte_words (blocks 128 doc)
           ∙ ap (map (bytes_tag m card)) (blocks_are (omega arith) h.split waits)
-          ∙ map_push (bytes_tag m card) h.whole s.block.items
+          ∙ map_push (bytes_tag m card) h.whole s.block
 
 -- a stream that took nothing
-pub empty_stream : {F : Type 0} (m : Meaning) (card : List ℕ) (s : Stream F) (a b c d : Level F) → s.block.items ≡ [] → s.levels ≡ a ∷ b ∷ c ∷ d ∷ []
-    → a.tags.items ≡ [] → b.tags.items ≡ [] → c.tags.items ≡ [] → d.tags.items ≡ [] → StreamHolds m card s []
+pub empty_stream : {F : Type 0} (m : Meaning) (card : List ℕ) (s : Stream F) (a b c d : Level) → s.block ≡ [] → s.levels ≡ a ∷ b ∷ c ∷ d ∷ []
+    → a.tags ≡ [] → b.tags ≡ [] → c.tags ≡ [] → d.tags ≡ [] → StreamHolds m card s []
 empty_stream m card s a b c d none levels ea eb ec ed = record {
   whole = [];
   split = subst (Split 128 [] []) (sym none) split_none;

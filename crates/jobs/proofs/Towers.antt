@@ -12,22 +12,22 @@ use Rattle.jobs.specs.declared.state.Level.{Level}
 use Rattle.jobs.proofs.Cuts.{blocks_are, split_long}
 use Rattle.jobs.proofs.Levels.{tag_of_stretch}
 
-module _ {F : Type 0} {m : Meaning} {ks : List ℕ} {l : Level F} {ts ups : List ℕ} (h : LevelHolds m ks l ts ups) where
+module _ {m : Meaning} {ks : List ℕ} {l : Level} {ts ups : List ℕ} (h : LevelHolds m ks l ts ups) where
   -- the tags above a level, from its own state
-  above_is : (keys : List ℕ) (tag : ℕ) → keys ≡ take 32 ks → tag ≡ tags_tag m keys l.tags.items → map (block_tag m ks) (next_words ts) ≡ ups ++ tag ∷ []
+  above_is : (keys : List ℕ) (tag : ℕ) → keys ≡ take 32 ks → tag ≡ block_tag m keys l.tags → map (block_tag m ks) (next_words ts) ≡ ups ++ tag ∷ []
   unfolding next_words
   above_is keys tag stretch e =
       map-map (block_tag m ks) tags_words (blocks 16 ts)
       ∙ ap (map (tags_tag m ks)) (blocks_are (omega arith) h.split h.waits)
-      ∙ map_push (tags_tag m ks) h.whole l.tags.items
-      ∙ ap (λ us. us ++ tags_tag m ks l.tags.items ∷ []) (sym h.passed)
-      ∙ ap (λ u. ups ++ u ∷ []) (sym (e ∙ tag_of_stretch m ks keys (tags_words l.tags.items) stretch))
+      ∙ map_push (tags_tag m ks) h.whole h.rest
+      ∙ ap (λ us. us ++ tags_tag m ks h.rest ∷ []) (sym h.passed)
+      ∙ ap (λ u. ups ++ u ∷ []) (sym (e ∙ ap (block_tag m keys) h.words ∙ tag_of_stretch m ks keys (tags_words h.rest) stretch))
 
   ups_long : 0 < length ts → 16 * length ups + 1 ≤ length ts
   ups_long p = let w = h.waits p in let n = split_long h.split in let e = ap length h.passed ∙ length-map h.whole (tags_tag m ks) in omega arith
 
 -- the lowest level took a tag in, and those above what it handed on
-pub handed : {F : Type 0} (m : Meaning) (ks keys rest : List ℕ) (ls : List (Level F)) (l l' : Level F) (above above' : List (Level F)) (tag : ℕ) (up : Option ℕ) → ls ≡ l ∷ above → keys ≡ take 32 ks → rest ≡ drop 32 ks
+pub handed : (m : Meaning) (ks keys rest : List ℕ) (ls : List Level) (l l' : Level) (above above' : List Level) (tag : ℕ) (up : Option ℕ) → ls ≡ l ∷ above → keys ≡ take 32 ks → rest ≡ drop 32 ks
     → ((ks ts ups : List ℕ) → keys ≡ take 32 ks → LevelHolds m ks l ts ups → LevelHolds m ks l' (ts ++ tag ∷ []) (ups ++ option_to_list up))
     → ((ups : List ℕ) → LevelsHold m rest above ups → LevelsHold m rest above' (ups ++ option_to_list up))
     → (ts : List ℕ) → LevelsHold m ks ls ts → LevelsHold m ks (l' ∷ above') (ts ++ tag ∷ [])
@@ -37,8 +37,8 @@ handed m ks keys rest ls l l' above above' tag up is stretch behind push next ts
     (all.0 ++ option_to_list up, push ks ts all.0 stretch all.1, subst (λ ks'. LevelsHold m ks' above' (all.0 ++ option_to_list up)) behind went)
 
 -- the last tag went in, and the lowest level's tag went into those above
-pub top_more : {F : Type 0} (m : Meaning) (ks keys rest : List ℕ) (ls ls' above : List (Level F)) (l : Level F) (last tag r : ℕ) → keys ≡ take 32 ks → rest ≡ drop 32 ks
-    → ls' ≡ l ∷ above → length ls' ≡ length ls → tag ≡ tags_tag m keys l.tags.items
+pub top_more : (m : Meaning) (ks keys rest : List ℕ) (ls ls' above : List Level) (l : Level) (last tag r : ℕ) → keys ≡ take 32 ks → rest ≡ drop 32 ks
+    → ls' ≡ l ∷ above → length ls' ≡ length ls → tag ≡ block_tag m keys l.tags
     → ((ts : List ℕ) → LevelsHold m ks ls ts → LevelsHold m ks ls' (ts ++ last ∷ []))
     → ((ts : List ℕ) → LevelsHold m rest above ts → length ts < 16 ^ length above → r ≡ get_or (climb m (length above) rest (ts ++ tag ∷ [])) 0 0)
     → (ts : List ℕ) → LevelsHold m ks ls ts → length ts < 16 ^ length ls → r ≡ get_or (climb m (length ls) ks (ts ++ last ∷ [])) 0 0

@@ -21,7 +21,7 @@ pub record Holds {F : Type 0} {G : Ghosts F} (m : Meaning) (card : List ℕ) (jo
   pub on : o.card ≡ card
   pub under : o.label ≡ job.label
   pub long : o.length ≡ length job.document
-  pub waits : 0 < length job.document → 0 < length o.stream.block.items
+  pub waits : 0 < length job.document → 0 < length o.stream.block
   pub stream : StreamHolds m card o.stream job.document
 
 -- a closed job on `card` that stands for `job`: it has the job's root tag, label and length

@@ -11,6 +11,7 @@ mod open_job;
 mod state;
 mod stream;
 mod tag;
+mod waiting;
 
 pub use card::{CardError, read_card};
 pub use examples::worked_examples;

@@ -62,8 +62,8 @@ impl<F: Family> OpenJob<F> {
     }
 
     // The tag of the root list, once the document is all in.
-    fn root(self) -> u64
-        ensures { (card : List ℕ) (job : Job) → Holds F.meaning card job self → result ≡ root_tag F.meaning card job }
+    fn root(&mut self) -> u64
+        ensures { (card : List ℕ) (job : Job) → Holds F.meaning card job self.old → result ≡ root_tag F.meaning card job }
     {
         let top = self.stream.close(&self.card);
         let words = root_words(top, self.length as u32, self.label);
@@ -71,7 +71,7 @@ impl<F: Family> OpenJob<F> {
     }
 
     // Ends the document.
-    pub fn close(self) -> ClosedJob<F>
+    pub fn close(mut self) -> ClosedJob<F>
         ensures { (card : List ℕ) (job : Job) → Holds F.meaning card job self → Closed F.meaning card job result }
     {
         ClosedJob {

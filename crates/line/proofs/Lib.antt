@@ -5,7 +5,6 @@ pub mod Puts
 pub mod Turns
 pub mod Choosing
 pub mod Serving
-pub mod Calls
 pub mod Admissions
 pub mod Codes
 pub mod Wholes

@@ -2,7 +2,6 @@
 use Rattle.std.proofs.Common.{◌≡◌, ℕ, ◌+◌, ◌-◌, ◌*◌, ◌≤◌, List, ◌++◌, length, drop, None, Ok, Err, Option, Result, sym, ap, ◌∙◌, arith}
 use Rattle.families.specs.Meanings.{Meaning}
 use Rattle.families.specs.declared.family.Family.{Ghosts}
-use Rattle.pads.specs.declared.source.PadSource.{Ghosts as Pads}
 use Rattle.jobs.specs.Roots.{Job}
 use Rattle.line.specs.Buffers.{answers_bytes}
 use Rattle.line.specs.Commands.{Order, first, width}
@@ -21,10 +20,10 @@ use Rattle.line.specs.declared.session.Session.{Session}
 use Rattle.line.proofs.Puts.{left_next, left_end, writes_long}
 use Rattle.line.proofs.Turns.{from_next, from_stop, from_end, room, owes}
 
-module _ {F S : Type 0} {G : Ghosts F} {H : Pads S} (m : Meaning) (pads : S → List ℕ) where
+module _ {F S : Type 0} {G : Ghosts F} (m : Meaning) (pads : S → List ℕ) where
   -- The session stands for a job, and what is left of the line answers the rest of what it answers from the start. Behind
   -- the room for the commands there is room for what the end may still answer.
-  pub record Serves (desk : Desk S H) (session : Session F S G H) (commands rest : Commands) (held output : Output) : Type 0 where
+  pub record Serves (desk : Desk S) (session : Session F S G) (commands rest : Commands) (held output : Output) : Type 0 where
     pub job : Option Job
     pub stands : Stands m session job
     pub same_card : session.desk.card ≡ desk.card
@@ -36,7 +35,7 @@ module _ {F S : Type 0} {G : Ghosts F} {H : Pads S} (m : Meaning) (pads : S → 
 
   -- a command is obeyed, and its answer is written
   pub serves_on :
-      {desk : Desk S H} {session next : Session F S G H} {commands rest after : Commands} {held output now : Output} {given : ℕ × Result Command LineFault} {reply : Reply}
+      {desk : Desk S} {session next : Session F S G} {commands rest after : Commands} {held output now : Output} {given : ℕ × Result Command LineFault} {reply : Reply}
       (on : Serves desk session commands rest held output)
       (o : Order) →
       Step rest after given →
@@ -71,7 +70,7 @@ module _ {F S : Type 0} {G : Ghosts F} {H : Pads S} (m : Meaning) (pads : S → 
       }
 
 module _
-    {F S : Type 0} {G : Ghosts F} {H : Pads S} {m : Meaning} {pads : S → List ℕ} {desk : Desk S H} {session : Session F S G H} {commands rest : Commands} {held output : Output}
+    {F S : Type 0} {G : Ghosts F} {m : Meaning} {pads : S → List ℕ} {desk : Desk S} {session : Session F S G} {commands rest : Commands} {held output : Output}
     (on : Serves m pads desk session commands rest held output)
   where
     -- a fault is the last

@@ -1,7 +1,6 @@
 -- Where the first commands of a line lead.
 use Rattle.std.specs.Option.{ok_or}
 use Rattle.std.specs.Prelude.{◌≡◌, ℕ, List, Some, None, Ok, Err, Option, Result}
-use Rattle.pads.specs.declared.source.PadSource.{Ghosts as Pads}
 use Rattle.families.specs.Names.{meaning_of}
 use Rattle.line.specs.Choices.{chosen}
 use Rattle.line.specs.Commands.{Order}
@@ -36,5 +35,5 @@ Begun before after held output (Some family) = GoesOn (answers_from (meaning_of 
 Begun before after held output None = (card : List ℕ) (s : State) → Writes (unchosen_from card before.line.now before.at s) held output
 
 -- what the rest of a line answers before a choice, with the card and the books at a desk and no job open
-abbrev pub whole_answers : {S : Type 0} {H : Pads S} → (S → List ℕ) → Desk S H → Commands → List ℕ
+abbrev pub whole_answers : {S : Type 0} → (S → List ℕ) → Desk S → Commands → List ℕ
 whole_answers pads desk commands = unchosen_from desk.card commands.line.now commands.at (state_at pads desk None)

@@ -1,5 +1,6 @@
 pub mod Bytes
 pub mod Numbers
+pub mod Encodings
 pub mod Commands
 pub mod Choices
 pub mod Faults

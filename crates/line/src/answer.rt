@@ -1,11 +1,10 @@
 // What a line answers.
-ghost use Rattle.std.specs.Prelude.{◌≡◌, ◌+◌, ◌≤◌, ◌∷◌, ◌++◌, length};
+ghost use Rattle.std.specs.Prelude.{◌∷◌};
 ghost use Rattle.line.specs.Bytes.{bytes_of};
-ghost use Rattle.arrayvec.specs.ArrayVec.{array_vec_len};
 ghost use Rattle.line.specs.Numbers.{answer_bytes};
+ghost use Rattle.line.specs.Encodings.{Encodes};
 
 use crate::refusal::Refusal;
-use arrayvec::ArrayVec;
 
 // The bytes of the longest answer.
 const LONGEST: usize = 13;
@@ -20,45 +19,49 @@ pub enum Answer {
     Refused { refusal: Refusal, place: u32 },
 }
 
-// Puts bytes behind those that are there.
-fn append(bytes: &mut ArrayVec<u8, LONGEST>, more: &[u8])
-    requires { array_vec_len bytes.old + length more.now ≤ LONGEST }
-    ensures { bytes.new.items ≡ bytes.old.items ++ more.now }
-{
-    bytes.try_extend_from_slice(more).unwrap()
+// The bytes of an answer: the first `count` of these, and zeros behind them.
+#[derive(Clone, Copy, PartialEq, Eq, Debug)]
+pub struct AnswerBytes {
+    pub bytes: [u8; LONGEST],
+    pub count: usize,
 }
 
 // A byte that says what was granted, and a number.
-fn granted(byte: u8, number: u32) -> ArrayVec<u8, LONGEST>
-    ensures { result.items ≡ byte ∷ bytes_of 4 number }
+fn granted(byte: u8, number: u32) -> AnswerBytes
+    ensures { Encodes (byte ∷ bytes_of 4 number) result }
 {
-    let mut bytes = ArrayVec::new();
-    bytes.push(byte);
-    append(&mut bytes, &number.to_le_bytes());
-    bytes
+    let [a, b, c, d] = number.to_le_bytes();
+    AnswerBytes {
+        bytes: [byte, a, b, c, d, 0, 0, 0, 0, 0, 0, 0, 0],
+        count: 5,
+    }
 }
 
-fn sealed(number: u32, tag: u64) -> ArrayVec<u8, LONGEST>
-    ensures { result.items ≡ answer_bytes (Answer.Sealed number tag) }
+fn sealed(number: u32, tag: u64) -> AnswerBytes
+    ensures { Encodes (answer_bytes (Answer.Sealed number tag)) result }
 {
-    let mut bytes = granted(0x53, number);
-    append(&mut bytes, &tag.to_le_bytes());
-    bytes
+    let [a, b, c, d] = number.to_le_bytes();
+    let [s, t, u, v, w, x, y, z] = tag.to_le_bytes();
+    AnswerBytes {
+        bytes: [0x53, a, b, c, d, s, t, u, v, w, x, y, z],
+        count: 13,
+    }
 }
 
-fn refused(refusal: Refusal, place: u32) -> ArrayVec<u8, LONGEST>
-    ensures { result.items ≡ answer_bytes (Answer.Refused refusal place) }
+fn refused(refusal: Refusal, place: u32) -> AnswerBytes
+    ensures { Encodes (answer_bytes (Answer.Refused refusal place)) result }
 {
     let (layer, number) = refusal.code();
-    let mut bytes = ArrayVec::new();
-    append(&mut bytes, &[0x52, layer, number]);
-    append(&mut bytes, &place.to_le_bytes());
-    bytes
+    let [a, b, c, d] = place.to_le_bytes();
+    AnswerBytes {
+        bytes: [0x52, layer, number, a, b, c, d, 0, 0, 0, 0, 0, 0],
+        count: 7,
+    }
 }
 
 impl Answer {
-    pub fn encode(self) -> ArrayVec<u8, LONGEST>
-        ensures { result.items ≡ answer_bytes self }
+    pub fn encode(self) -> AnswerBytes
+        ensures { Encodes (answer_bytes self) result }
     {
         match self {
             Answer::Sealed { number, tag } => sealed(number, tag),

@@ -61,6 +61,7 @@ impl<'a> Iterator for Commands<'a> {
 
     ghost remaining = { λ c. at_most (length c.line.now - c.at) };
 
+    #[inline]
     fn next(&mut self) -> Option<(u32, Result<Command<'a>, LineFault>)> {
         if self.at == self.line.len() {
             return None;

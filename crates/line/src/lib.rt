@@ -15,7 +15,7 @@ mod run;
 mod serve;
 mod session;
 
-pub use answer::Answer;
+pub use answer::{Answer, AnswerBytes};
 pub use command::Command;
 pub use commands::ANSWERS_ROOM;
 pub use laws::line_laws;

@@ -25,17 +25,19 @@ fn reply(place: u32, res: Result<Option<Answer>, Refusal>) -> Option<Answer>
 
 impl Output<'_> {
     // Writes an answer behind those that are there.
+    #[inline]
     fn write(&mut self, answer: Answer)
         requires { self.old.used + length (answer_bytes answer) ≤ length self.old.answers.now }
         ensures { Writes (answer_bytes answer) self.old self.new }
     {
-        let bytes = answer.encode();
-        let end = self.used + bytes.len();
-        self.answers[self.used..end].copy_from_slice(bytes.as_slice());
+        let encoding = answer.encode();
+        let end = self.used + encoding.count;
+        self.answers[self.used..end].copy_from_slice(&encoding.bytes[0..encoding.count]);
         self.used = end;
     }
 
     // Writes the answer to what stands at `place`, if it has one.
+    #[inline]
     pub(crate) fn respond(&mut self, place: u32, res: Result<Option<Answer>, Refusal>)
         requires { self.old.used + length (answers_bytes (replies place res)) ≤ length self.old.answers.now }
         ensures { Writes (answers_bytes (replies place res)) self.old self.new }

@@ -14,6 +14,7 @@ fn front<const N: usize>(bytes: &[u8]) -> Result<&[u8; N], LineFault>
 }
 
 // The command that a byte begins, with the rest of the line, which lies at `place`.
+#[inline]
 fn begin(byte: u8, rest: &[u8], place: usize) -> Result<Command<'_>, LineFault>
     ensures command { result_map_both order_of (λ e. e) result ≡ begun byte rest.now }
     ensures place { InPlace place result }
@@ -48,6 +49,7 @@ fn begin(byte: u8, rest: &[u8], place: usize) -> Result<Command<'_>, LineFault>
 }
 
 // The command at `at`, or why there is none.
+#[inline]
 pub fn read_command(line: &[u8], at: usize) -> Result<Command<'_>, LineFault>
     ensures command { result_map_both order_of (λ e. e) result ≡ first (drop at line.now) }
     ensures place { InPlace (at + 1) result }

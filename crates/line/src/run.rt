@@ -15,22 +15,26 @@ use crate::session::Desk;
 use books::{MOST_PADS, PadCountError, open_books};
 use families::{FamilyName, Mmh, MmhStar, Nh, Nhs};
 use jobs::read_card;
-use pads::{Sheet, read_sheet};
+use pads::{PadSource, Sheet, read_sheet};
 
 // Answers a whole line, and says how many bytes that takes.
-fn answer_line(desk: Desk<Sheet<'_>>, mut commands: Commands, answers: &mut [u8]) -> usize
+fn answer_line<S: PadSource + Drop>(
+    desk: Desk<S>,
+    mut commands: Commands,
+    answers: &mut [u8],
+) -> usize
     requires { 13 * (length commands.line.now - commands.at) ≤ length answers.old }
-    ensures end { result ≡ length (whole_answers (λ s. s.pads.now) desk.entry commands.entry) }
-    ensures buffer { answers.new ≡ put 0 (whole_answers (λ s. s.pads.now) desk.entry commands.entry) answers.old }
+    ensures end { result ≡ length (whole_answers S.pads desk commands.entry) }
+    ensures buffer { answers.new ≡ put 0 (whole_answers S.pads desk commands.entry) answers.old }
 {
     let mut output = Output { answers, used: 0 };
     // A family is a type, and no closure is generic: the four are named here.
     match until_choice(&mut commands, &mut output) {
         None => {}
-        Some(FamilyName::Nh) => serve::<Nh>(desk, commands, &mut output),
-        Some(FamilyName::Nhs) => serve::<Nhs>(desk, commands, &mut output),
-        Some(FamilyName::MmhStar) => serve::<MmhStar>(desk, commands, &mut output),
-        Some(FamilyName::Mmh) => serve::<Mmh>(desk, commands, &mut output),
+        Some(FamilyName::Nh) => serve::<Nh, S>(desk, commands, &mut output),
+        Some(FamilyName::Nhs) => serve::<Nhs, S>(desk, commands, &mut output),
+        Some(FamilyName::MmhStar) => serve::<MmhStar, S>(desk, commands, &mut output),
+        Some(FamilyName::Mmh) => serve::<Mmh, S>(desk, commands, &mut output),
     }
     output.used
 }

@@ -9,14 +9,18 @@ use crate::output::Output;
 use crate::refusal::Refusal;
 use crate::session::{Desk, Session};
 use families::Family;
-use pads::Sheet;
+use pads::PadSource;
 
 // Obeys what is left of a line. A fault is answered, and ends it, so it is no `?`.
-pub(crate) fn serve<F: Family>(desk: Desk<Sheet<'_>>, commands: Commands, output: &mut Output)
+pub(crate) fn serve<F: Family, S: PadSource + Drop>(
+    desk: Desk<S>,
+    commands: Commands,
+    output: &mut Output,
+)
     requires { HasRoom commands output.old }
-    ensures { Writes (answers_from F.meaning desk.entry.card commands.entry.line.now commands.entry.at (state_at (λ s. s.pads.now) desk.entry Nothing)) output.old output.new }
+    ensures { Writes (answers_from F.meaning desk.card commands.entry.line.now commands.entry.at (state_at S.pads desk Nothing)) output.old output.new }
 {
-    let mut session = Session::<F, Sheet>::new(desk);
+    let mut session = Session::<F, S>::new(desk);
     let end = commands.end();
     for (place, read) in commands {
         match read {

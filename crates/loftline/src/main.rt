@@ -28,7 +28,7 @@ fn run(rt: &HostRuntime) -> Result<(), Fault> {
         Ok(count) => output.write_all(&answers[0..count])?,
         Err(refusal) => {
             let encoding = Answer::Refused { refusal, place: 0 }.encode();
-            output.write_all(encoding.as_slice())?
+            output.write_all(&encoding.bytes[0..encoding.count])?
         }
     }
     Ok(())

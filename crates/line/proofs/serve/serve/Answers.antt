@@ -7,7 +7,7 @@ pub loop-place-preserved : goal.loop-place-preserved
 loop-place-preserved g c =
     let on = c.loop-place.invariant in
     let step = c.in-Some.ensures.steps in
-    serves_on g.F.Family.meaning (λ s. s.pads.now) on (order_of c.in-Ok.command) step (sym (rw c.in-Ok.is at step.read)) (c.obey.ensures on.job on.stands) c.respond.ensures
+    serves_on g.F.Family.meaning g.S.PadSource.pads on (order_of c.in-Ok.command) step (sym (rw c.in-Ok.is at step.read)) (c.obey.ensures on.job on.stands) c.respond.ensures
 
 pub returns-in-Err : goal.returns-in-Err
 returns-in-Err g c =

@@ -1,4 +1,4 @@
-use Rattle.std.proofs.Common.{◌≡◌, ◌-◌, ◌*◌, ◌/◌, ◌++◌, length, take, ap, ◌∙◌, subst, append_assoc, arith}
+use Rattle.std.proofs.Common.{◌≡◌, ◌*◌, ◌++◌, take, ap, ◌∙◌, subst, append_assoc, arith}
 use Rattle.std.proofs.lemmas.List.{take-append-drop}
 use Rattle.jobs.specs.Holding.{StreamHolds}
 use Rattle.jobs.proofs.Cuts.{chunk_next}
@@ -22,8 +22,8 @@ returns-clause-holds g c = λ doc h.
     let bs = c.args.bytes.now in
     let rest = c.split_at.result.1.now in
     let i = c.loop-block.block-index in
-    let w = (length bs - 1) / 128 * 128 in
-    let at : 128 * i ≡ w = omega (arith, c.as_chunks.ensures.front_len, c.split_at.ensures.front_len) in
+    let w = c.whole_blocks.result in
+    let at : 128 * i ≡ w = omega (arith, c.as_chunks.ensures.front_len, c.split_at.ensures.front_len, c.whole_blocks.ensures.whole) in
     let all : take (128 * i) bs ++ rest ≡ bs = ap (λ n. take n bs ++ rest) at ∙ ap (λ xs. take w bs ++ xs) c.split_at.ensures.back ∙ take-append-drop w bs in
     subst (StreamHolds g.F.Family.meaning c.args.card.now c.keep.new.self)
     (append_assoc doc (take (128 * i) bs) rest ∙ ap (λ xs. doc ++ xs) all)
