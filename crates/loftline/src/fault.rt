@@ -2,7 +2,7 @@
 use std::io;
 use thiserror::Error;
 
-#[derive(Debug, Drop, Error)]
+#[derive(Clone, Copy, Debug, Drop, Error)]
 pub enum Fault {
     #[error("cannot read card.bin in this folder")]
     NoCard,

@@ -4,7 +4,7 @@ use jobs::{CardError, TooLong};
 use std::io;
 use thiserror::Error;
 
-#[derive(Debug, Drop, Error)]
+#[derive(Clone, Copy, Debug, Drop, Error)]
 pub enum Fault {
     #[error("usage: loftmark FAMILY LABEL, with the document on standard input")]
     Usage,

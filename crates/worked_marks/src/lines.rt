@@ -1,16 +1,27 @@
 // Whole runs of the line, from lines.tsv.
 use crate::tally::Tally;
-use anyhow::anyhow;
+use anyhow::{anyhow, ensure};
 use line::{ANSWERS_ROOM, Answer, run_line};
 use std::alloc::{AllocError, Global};
 use std::fs;
 
-// The bytes that a column spells: two digits for each, or a dash for none.
+// The bytes that a column spells: two digits for each, in lower case, or a dash for none. A last digit without its second is
+// left out.
 fn column(heap: Global, text: &str) -> anyhow::Result<Vec<u8>> {
     if text == "-" {
         return Ok(Vec::new(heap));
     }
-    hex::decode(heap, text).map_err(|_| anyhow!("lines.tsv has a column that is not hexadecimal"))
+    let digits = text.as_bytes();
+    let pairs = &digits[..digits.len() / 2 * 2];
+    ensure!(
+        pairs
+            .iter()
+            .all(|digit| matches!(*digit, b'0'..=b'9' | b'a'..=b'f')),
+        "lines.tsv has a digit that is not hexadecimal"
+    );
+    // All are digits, so nothing but memory can be missing.
+    let bytes = hex::decode(heap, pairs).map_err(|_| AllocError)?;
+    Ok(bytes)
 }
 
 // What the program loftline writes for these contents of its files, written once more, since a program gives no functions:
@@ -21,7 +32,7 @@ fn output(heap: Global, card: &[u8], sheet: &[u8], line: &[u8]) -> Result<Vec<u8
         Ok(count) => Vec::from_slice(heap, &answers[0..count]),
         Err(refusal) => {
             let encoding = Answer::Refused { refusal, place: 0 }.encode();
-            Vec::from_slice(heap, encoding.as_slice())
+            Vec::from_slice(heap, &encoding.bytes[0..encoding.count])
         }
     }
 }

@@ -7,6 +7,9 @@ use std::fs;
 use std::iter::Skip;
 use std::str::Lines;
 
+// The columns before the families'.
+const BEFORE: usize = 5;
+
 // A card by its name, a label, a document by its rule, and the root tag that it should have.
 #[derive(Drop)]
 pub struct Vector<'a> {
@@ -26,11 +29,10 @@ pub struct Vectors<'a> {
 }
 
 impl<'a> Vectors<'a> {
-    // The column is found by the family's name in the first line.
-    pub fn of(text: &'a str, name: &str) -> Option<Vectors<'a>> {
-        let titles = text.lines().next()?;
-        let column = titles.split('\t').position(|title| title == name)?;
-        Some(Vectors { text, column })
+    // Of the families' columns, the one of this place. The first line, of titles, is not read.
+    pub fn of(text: &'a str, family: usize) -> Vectors<'a> {
+        let column = BEFORE.saturating_add(family);
+        Vectors { text, column }
     }
 
     pub fn lines(&self) -> Skip<Lines<'a>> {
